@@ -206,6 +206,33 @@ def stands_flood(room: Path, line: str, size: int, voters: range, bundled: bool 
     return holder.lost() == 0 and goes_on and is_healthy and c.all_run()
 
 
+@case(150)
+def flood_of_another_user(room: Path) -> bool:
+    """One user says much under made-up names, 20,000 messages a second at most. Newcomers of another user get their locks."""
+    c = Cluster(room)
+    stranger, stop = Stranger(c), threading.Event()
+
+    def say() -> None:
+        began, count = time.monotonic(), 0
+        while not stop.is_set():
+            said = ""
+            for count in range(count + 1, count + 201):
+                text = stranger.header("c", f"0 0 0 made-up-{count} 1") + f". for lock-{count}\n. hello\n"
+                said += "".join(f"PUB qlock.{c.id}.v.{n}.web {len(text)}\r\n{text}\r\n" for n in range(len(NAMES)))
+            stranger.socket.sendall(said.encode())
+            time.sleep(max(0, began + count / 20000 - time.monotonic()))
+
+    speaker = threading.Thread(target=say, daemon=True)
+    speaker.start()
+    time.sleep(3)
+    enter = c.locks(4)
+    stop.set()
+    speaker.join()
+    print("messages that were dropped:", [int(c.metric(voter, "messages_dropped_total")) for voter in NAMES])
+    stranger.must_arrive()
+    return enter and c.all_run()
+
+
 @case(120)
 def flood_of_questions(room: Path) -> bool:
     """One megabyte of `hello` to each voter, of somebody without a session, may lose no lock."""

@@ -203,7 +203,7 @@ func TestNewVotersLearnWhatIsReserved(t *testing.T) {
 		t.Fatal("nothing is reserved")
 	}
 	soon(t, "the voters do not take the plan", func() bool { return w.Install() == nil })
-	replies, err := w.Console().Ask(within(t, 5*time.Second), "status", 3, 4)
+	replies, err := w.Console().Ask(within(t, 5*time.Second), "sessions 0", 3, 4)
 	if err != nil {
 		t.Fatal(err)
 	}
@@ -227,7 +227,7 @@ func TestRetireBringsUpToDate(t *testing.T) {
 		t.Fatal("nothing is reserved")
 	}
 	soon(t, "the voters don't reply", func() bool { return w.Retire() == nil })
-	replies, err := w.Console().Ask(within(t, 5*time.Second), "status", 2)
+	replies, err := w.Console().Ask(within(t, 5*time.Second), "sessions 0", 2)
 	if err != nil || !strings.Contains(string(replies[0].Body), fmt.Sprintf(`"reserved":%d`, 1<<18)) {
 		t.Errorf("%s, %v", replies[0].Body, err)
 	}

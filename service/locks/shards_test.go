@@ -450,7 +450,7 @@ func TestSessionsOfAllShardsAreLearned(t *testing.T) {
 			if err := json.Unmarshal(r.Body, &status); err != nil {
 				t.Fatal(err)
 			}
-			counts = append(counts, len(status.Sessions))
+			counts = append(counts, status.Open)
 		}
 		return counts
 	}

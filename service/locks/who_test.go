@@ -115,7 +115,7 @@ func TestLook(t *testing.T) {
 		t.Error(err)
 	}
 	replies, err := w.Console().Ask(within(t, 5*time.Second), "status", 0)
-	if err != nil || !strings.Contains(string(replies[0].Body), `"sessions":[]`) {
+	if err != nil || !strings.Contains(string(replies[0].Body), `"open":0`) {
 		t.Errorf("%v: %s", err, replies[0].Body)
 	}
 	w.Kill(0)

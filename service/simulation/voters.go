@@ -107,7 +107,7 @@ func (s source) Read(into []byte) (int, error) { return s.random.Read(into) }
 
 // around returns the surroundings of a process, nil for one that only makes a state.
 func (p *place) around(r *process) voter.Surroundings {
-	return voter.Surroundings{Random: source{p.world}, Disk: p.disk, Block: p.block, Aside: func(work func()) { work() },
+	return voter.Surroundings{Random: source{p.world}, Disk: p.disk, Block: p.block,
 		Now: func() time.Time { return p.date(r) }}
 }
 

@@ -49,6 +49,7 @@ type NATS struct {
 	passed    map[string]*passed // the mailboxes of which a function takes all, by their subjects
 	came      chan *nats.Msg     // what came to these, nil before there was one
 	lost      uint64             // the messages that found no room in mailboxes that were left since
+	drops     Drops              // those that found none in the room of a mailbox
 }
 
 // Whether there is a connection. At first it is not known.
@@ -63,6 +64,7 @@ type mailbox struct {
 	subscription *nats.Subscription // nil until the library has it
 	messages     chan Message
 	left         chan struct{} // closed once nobody reads it any more
+	room         *room
 }
 
 // passed is a mailbox of which a function takes all that comes.
@@ -400,25 +402,13 @@ func (n *NATS) Explain(err error) error {
 // Listen returns the messages that come to a mailbox. What finds no room is dropped, and counted: a
 // reminder repeats it.
 func (n *NATS) Listen(subject string) (<-chan Message, error) {
-	box := &mailbox{subject: subject, messages: make(chan Message, next), left: make(chan struct{})}
-	out := handed{to: box.messages, sizes: make([]int, next+1)}
+	box := &mailbox{subject: subject, messages: make(chan Message, next), left: make(chan struct{}), room: newRoom()}
 	takes := func(m *nats.Msg) {
-		for !out.hasRoom(len(m.Data)) {
-			select {
-			case <-time.After(time.Millisecond): // the others wait in the subscription
-			case <-box.left:
-				return
-			case <-n.closed:
-				return
-			}
-		}
-		select {
-		case out.to <- Message{m.Subject, m.Data}:
-			out.note(len(m.Data))
-		case <-box.left:
-		case <-n.closed:
+		if one := (Message{m.Subject, m.Data}); !box.room.put(one) {
+			n.drops.Add(one.Sender())
 		}
 	}
+	go n.handOut(box)
 	n.mutex.Lock()
 	n.mailboxes = append(n.mailboxes, box)
 	n.mutex.Unlock()
@@ -430,6 +420,38 @@ func (n *NATS) Listen(subject string) (<-chan Message, error) {
 		return subscription, err
 	})
 	return box.messages, nil
+}
+
+// handOut hands out what comes to a mailbox, until nobody reads it any more.
+func (n *NATS) handOut(box *mailbox) {
+	out := handed{to: box.messages, sizes: make([]int, next+1)}
+	for {
+		m, isThere := box.room.take()
+		for isThere && !out.hasRoom(len(m.Data)) {
+			select {
+			case <-time.After(time.Millisecond): // the others wait in their room
+			case <-box.left:
+				return
+			case <-n.closed:
+				return
+			}
+		}
+		to, came := box.messages, box.room.came
+		if isThere {
+			came = nil
+		} else {
+			to = nil
+		}
+		select {
+		case to <- m:
+			out.note(len(m.Data))
+		case <-came:
+		case <-box.left:
+			return
+		case <-n.closed:
+			return
+		}
+	}
 }
 
 // Pass hands what comes to a mailbox to a function. All these mailboxes have one goroutine, and room for so many messages together.
@@ -566,7 +588,7 @@ func (n *NATS) Waiting() (count int) {
 	defer n.mutex.Unlock()
 	count = len(n.came)
 	for _, box := range n.mailboxes {
-		count += len(box.messages)
+		count += len(box.messages) + box.room.count()
 		if pending, _, err := box.subscription.Pending(); err == nil {
 			count += pending
 		}
@@ -578,7 +600,7 @@ func (n *NATS) Waiting() (count int) {
 func (n *NATS) Dropped() (count uint64) {
 	n.mutex.Lock()
 	defer n.mutex.Unlock()
-	count = n.lost
+	count = n.lost + n.drops.Load()
 	for _, box := range n.mailboxes {
 		count += dropped(box.subscription)
 	}
@@ -587,6 +609,9 @@ func (n *NATS) Dropped() (count uint64) {
 	}
 	return count
 }
+
+// Drops counts, by their senders, the messages of which a sender had too many.
+func (n *NATS) Drops() *Drops { return &n.drops }
 
 // Connected returns whether there is a connection.
 func (n *NATS) Connected() bool { return n.link.Load() == isUp }

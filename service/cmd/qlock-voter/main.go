@@ -13,6 +13,7 @@ import (
 	"syscall"
 	"time"
 
+	"calvundek.example/service/internal/bounded"
 	"calvundek.example/service/internal/config"
 	"calvundek.example/service/internal/event"
 	"calvundek.example/service/internal/operator"
@@ -164,13 +165,7 @@ func start(ctx context.Context, path string) error {
 		if err != nil {
 			return err
 		}
-		server := &http.Server{Handler: daemon.Handler(), ReadHeaderTimeout: 5 * time.Second}
-		go func() {
-			if err := server.Serve(listener); !errors.Is(err, http.ErrServerClosed) {
-				event.Stderr.Write(event.Error, "metrics-failed", "why", err)
-			}
-		}()
-		defer server.Close()
+		defer show(listener, daemon.Handler()).Close()
 	}
 	ended := make(chan struct{})
 	defer close(ended)
@@ -178,4 +173,16 @@ func start(ctx context.Context, path string) error {
 		return err
 	}
 	return daemon.Run(ctx)
+}
+
+// show answers /metrics and /healthz until the server that it returns is closed. Whoever reaches them takes few of the voter's files.
+func show(listener net.Listener, handler http.Handler) *http.Server {
+	server := bounded.Shows(handler)
+	go func() {
+		err := server.Serve(bounded.Listener{Listener: listener, Most: bounded.MostShown, Now: new(bounded.Connections)})
+		if !errors.Is(err, http.ErrServerClosed) {
+			event.Stderr.Write(event.Error, "metrics-failed", "why", err)
+		}
+	}()
+	return server
 }

@@ -7,12 +7,15 @@ import (
 	"fmt"
 	"io"
 	"math/rand"
+	"net"
+	"net/http"
 	"os"
 	"path/filepath"
 	"strings"
 	"testing"
 	"time"
 
+	"calvundek.example/service/internal/bounded"
 	"calvundek.example/service/internal/bus"
 	"calvundek.example/service/internal/config"
 	"calvundek.example/service/internal/event"
@@ -220,5 +223,35 @@ func TestCheckThatPanics(t *testing.T) {
 	if err := checkApart(context.Background(), file, data); !errors.Is(err, voter.ErrDamaged) || exitStatus(err) != exitHopeless ||
 		strings.Contains(err.Error(), "\n") {
 		t.Errorf("status %d, %v", exitStatus(err), err)
+	}
+}
+
+// Who reaches the address of /metrics can't take the voter's files: few connections stay, and the others end at once.
+func TestFewConnectionsShow(t *testing.T) {
+	listener, err := net.Listen("tcp", "127.0.0.1:0")
+	if err != nil {
+		t.Fatal(err)
+	}
+	server := show(listener, http.NotFoundHandler())
+	defer server.Close()
+	var all []net.Conn
+	for n := 0; n < bounded.MostShown+4; n++ {
+		one, err := net.Dial("tcp", listener.Addr().String())
+		if err != nil {
+			t.Fatal(err)
+		}
+		defer one.Close()
+		if _, err := io.WriteString(one, "GET /healthz HTTP/1.1\r\nHost: x\r\nContent-Length: 100000\r\n\r\n"); n < bounded.MostShown && err != nil {
+			t.Fatal(err)
+		}
+		all = append(all, one)
+	}
+	last := all[bounded.MostShown+3]
+	_ = last.SetReadDeadline(time.Now().Add(3 * time.Second)) // before any time of the server is over
+	if n, err := last.Read(make([]byte, 1)); n > 0 || errors.Is(err, os.ErrDeadlineExceeded) {
+		t.Errorf("connection %d stays: %v", len(all), err)
+	}
+	if server.ReadTimeout == 0 || server.WriteTimeout == 0 {
+		t.Error("a body that never comes may be waited for")
 	}
 }

@@ -189,8 +189,76 @@ func printLines(replies []operator.Reply, line func(r operator.Reply) (string, e
 }
 
 func statusCommand(ctx context.Context, s *settings) *cobra.Command {
-	command := &cobra.Command{Use: "status", Args: cobra.NoArgs, Short: "Show each voter"}
-	return simple(ctx, s, command, func([]string) (string, error) { return "status", nil }, shown, verdict)
+	return &cobra.Command{Use: "status", Args: cobra.NoArgs, Short: "Show each voter", RunE: func(*cobra.Command, []string) error {
+		return s.ask(ctx, func(short context.Context, cluster *config.Cluster, console *operator.Console) error {
+			replies, err := console.Ask(short, "status", console.All()...)
+			if err != nil {
+				return err
+			}
+			if s.json {
+				s.eachGood(ctx, replies, func(ctx context.Context, r *operator.Reply) error { return addLists(ctx, console, r) })
+				err = printJSON(replies)
+			} else {
+				err = printLines(replies, shown)
+			}
+			if err != nil {
+				return err
+			}
+			return verdict(replies, cluster.HasQuorums)
+		})
+	}}
+}
+
+// eachGood hands the replies of those that replied to a function, each with as long again as for all replies, and notes why it fails.
+func (s *settings) eachGood(ctx context.Context, replies []operator.Reply, use func(ctx context.Context, r *operator.Reply) error) {
+	for i := range replies {
+		if r := &replies[i]; r.Err == nil {
+			ctx, cancel := context.WithTimeout(ctx, s.timeout)
+			r.Err = use(ctx, r)
+			cancel()
+		}
+	}
+}
+
+// addLists adds all sessions and votes to the reply to `status`.
+func addLists(ctx context.Context, console *operator.Console, r *operator.Reply) error {
+	var all struct {
+		voter.Status
+		voter.Lists
+	}
+	all.Lists = voter.Lists{Sessions: []voter.SessionView{}, Votes: []voter.VoteView{}} // not null in JSON
+	err := json.Unmarshal(r.Body, &all.Status)
+	if err == nil {
+		err = readList(ctx, console, "sessions", r.Voter, &all.Lists)
+	}
+	if err == nil {
+		err = readList(ctx, console, "votes", r.Voter, &all.Lists)
+	}
+	if err == nil {
+		r.Body, err = json.Marshal(all)
+	}
+	return err
+}
+
+// readList reads all pages of a list of a voter. They show some votes twice, and the later one counts.
+func readList(ctx context.Context, console *operator.Console, list string, number int, into *voter.Lists) error {
+	places := map[string]int{}
+	return console.List(ctx, list, number, func(text []byte) error {
+		var page voter.Lists
+		if err := json.Unmarshal(text, &page); err != nil {
+			return err
+		}
+		into.Sessions = append(into.Sessions, page.Sessions...)
+		for _, v := range page.Votes {
+			if place, isThere := places[v.Lock]; isThere {
+				into.Votes[place] = v
+				continue
+			}
+			places[v.Lock] = len(into.Votes)
+			into.Votes = append(into.Votes, v)
+		}
+		return nil
+	})
 }
 
 // shown returns the line of a reply to `status`. It says whether the voter gives no votes yet.
@@ -200,7 +268,7 @@ func shown(r operator.Reply) (string, error) {
 		return "", err
 	}
 	text := fmt.Sprintf("locks=%d busy=%d sessions=%d granted=%d runs=%s start=%d run=%d identity=%.8s", one.Locks, one.Busy,
-		len(one.Sessions), one.Granted, seconds(one.Runs), one.Start, one.Run, one.Identity) + plans(one.Planned)
+		one.Open, one.Granted, seconds(one.Runs), one.Start, one.Run, one.Identity) + plans(one.Planned)
 	if !one.Serves {
 		text += " serves=false"
 	}
@@ -380,12 +448,16 @@ type report struct {
 func reportCommand(ctx context.Context, s *settings) *cobra.Command {
 	return &cobra.Command{Use: "report", Args: cobra.NoArgs, Short: "Show who has which votes, who waits, and the use of voters beside the plan",
 		RunE: func(*cobra.Command, []string) error {
-			return s.ask(ctx, func(ctx context.Context, cluster *config.Cluster, console *operator.Console) error {
-				replies, err := console.Ask(ctx, "status", console.All()...)
+			return s.ask(ctx, func(short context.Context, cluster *config.Cluster, console *operator.Console) error {
+				replies, err := console.Ask(short, "status", console.All()...)
 				if err != nil {
 					return err
 				}
-				r := newReport(cluster, replies)
+				lists := make([]voter.Lists, len(replies))
+				s.eachGood(ctx, replies, func(ctx context.Context, r *operator.Reply) error {
+					return readList(ctx, console, "votes", r.Voter, &lists[r.Voter])
+				})
+				r := newReport(cluster, replies, lists)
 				if s.json {
 					err = json.NewEncoder(os.Stdout).Encode(r)
 				} else {
@@ -399,8 +471,8 @@ func reportCommand(ctx context.Context, s *settings) *cobra.Command {
 		}}
 }
 
-// newReport collects what the voters replied.
-func newReport(cluster *config.Cluster, replies []operator.Reply) report {
+// newReport collects what the voters replied, and their lists of votes.
+func newReport(cluster *config.Cluster, replies []operator.Reply, lists []voter.Lists) report {
 	plan := cluster.Planned
 	r := report{Cluster: cluster.ID, Load: fmt.Sprintf("%d/%d", plan.LoadP, plan.LoadQ),
 		Bound: fmt.Sprintf("%d/%d", plan.BoundP, plan.BoundQ), Votes: []holding{}, loadText: plan.LoadText()}
@@ -421,7 +493,7 @@ func newReport(cluster *config.Cluster, replies []operator.Reply) report {
 			continue
 		}
 		r.Use[reply.Voter].Grants, grants = status.Granted, grants+status.Granted
-		for _, v := range status.Votes {
+		for _, v := range lists[reply.Voter].Votes {
 			r.Votes = append(r.Votes, holding{reply.Name, v})
 		}
 	}

@@ -10,6 +10,7 @@ import (
 	"time"
 
 	"calvundek.example/service/internal/operator"
+	"calvundek.example/service/internal/voter"
 	"calvundek.example/service/internal/worlds"
 	"calvundek.example/service/locks"
 )
@@ -98,12 +99,12 @@ func TestEvicted(t *testing.T) {
 
 // The line of a voter says whether it gives no votes yet.
 func TestShown(t *testing.T) {
-	line := "locks=1 busy=0 sessions=0 granted=2 runs=3s start=4 run=0 identity=01234567 plan=0"
+	line := "locks=1 busy=0 sessions=7 granted=2 runs=3s start=4 run=0 identity=01234567 plan=0"
 	for more, want := range map[string]string{`"serves":true`: "", `"serves":false`: " serves=false",
 		`"serves":false,"awaits":{"voters":"m0,m1","why":"too few"}`:             ` serves=false awaits=m0,m1 why="too few"`,
 		`"serves":false,"awaits":{"voters":"m0","why":"may come","seconds":6.4}`: ` serves=false awaits=m0 why="may come" for=6s`,
 		`"serves":true,"quiet_seconds":8.7`:                                      " quiet=9s"} {
-		got, err := shown(operator.Reply{Body: []byte(`{"locks":1,"granted":2,"runs_seconds":3.2,"start":4,` +
+		got, err := shown(operator.Reply{Body: []byte(`{"locks":1,"open":7,"granted":2,"runs_seconds":3.2,"start":4,` +
 			`"identity":"0123456789",` + more + `}`)})
 		if got != line+want || err != nil {
 			t.Errorf("%s: %q, %v", more, got, err)
@@ -191,5 +192,48 @@ func TestUnlockName(t *testing.T) {
 		if err := root.Execute(); !errors.Is(err, locks.ErrName) {
 			t.Errorf("%q: %v", name, err)
 		}
+	}
+}
+
+// `status --json` has all sessions and votes of each voter that replied, and a report all votes, each once.
+func TestListsOfVoters(t *testing.T) {
+	w := worlds.New(t, worlds.Majority, 5*time.Second)
+	ctx, cancel := context.WithTimeout(context.Background(), 20*time.Second)
+	defer cancel()
+	client, err := locks.Open(ctx, locks.Config{Cluster: fileOf(t, w), Transport: w.Bus.Port(), Note: "nightly"})
+	if err != nil {
+		t.Fatal(err)
+	}
+	for n := 0; n < 3; n++ {
+		if _, err := client.Lock(ctx, fmt.Sprint("x", n)); err != nil {
+			t.Fatal(err)
+		}
+	}
+	w.Stop(2)
+	console, s := w.Console(), &settings{timeout: time.Second}
+	short, end := context.WithTimeout(ctx, s.timeout)
+	defer end()
+	replies, err := console.Ask(short, "status", console.All()...)
+	if err != nil {
+		t.Fatal(err)
+	}
+	lists := make([]voter.Lists, len(replies))
+	s.eachGood(ctx, replies, func(ctx context.Context, r *operator.Reply) error {
+		if err := readList(ctx, console, "votes", r.Voter, &lists[r.Voter]); err != nil {
+			return err
+		}
+		return addLists(ctx, console, r)
+	})
+	for _, r := range replies[:2] {
+		if text := string(r.Body); r.Err != nil || strings.Count(text, `"lock":"x`) != len(lists[r.Voter].Votes) ||
+			strings.Count(text, `"shard":0,"number"`) != 1 || !strings.Contains(text, "nightly") || !strings.Contains(text, `"serves":true`) {
+			t.Errorf("%v: %s", r.Err, text)
+		}
+	}
+	if votes := len(newReport(w.Cluster, replies, lists).Votes); votes == 0 || votes != len(lists[0].Votes)+len(lists[1].Votes) {
+		t.Errorf("a report of %d votes", votes)
+	}
+	if err := verdict(replies, w.Cluster.HasQuorums); !strings.HasSuffix(err.Error(), "did not reply: c") {
+		t.Error(err)
 	}
 }

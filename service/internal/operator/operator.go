@@ -64,6 +64,29 @@ func (c *Console) Ask(ctx context.Context, words string, voters ...int) ([]Reply
 	return found, nil
 }
 
+// List asks a voter for all pages of a list, one after the other, and hands each to a function.
+func (c *Console) List(ctx context.Context, list string, voter int, use func(page []byte) error) error {
+	for from := 0; ; {
+		replies, err := c.Ask(ctx, fmt.Sprint(list, " ", from), voter)
+		if err == nil {
+			err = replies[0].Err
+		}
+		if err != nil {
+			return err
+		}
+		var page struct {
+			Next int `json:"next"`
+		}
+		if err := json.Unmarshal(replies[0].Body, &page); err != nil {
+			return err
+		}
+		if err := use(replies[0].Body); err != nil || page.Next == 0 {
+			return err
+		}
+		from = page.Next
+	}
+}
+
 // All returns the numbers of all voters.
 func (c *Console) All() (voters []int) {
 	for voter := range c.cluster.Names() {

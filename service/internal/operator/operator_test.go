@@ -2,7 +2,9 @@ package operator_test
 
 import (
 	"context"
+	"errors"
 	"fmt"
+	"strings"
 	"testing"
 	"time"
 
@@ -62,5 +64,56 @@ func TestMailboxesAreLeft(t *testing.T) {
 	}
 	if after := w.Bus.Boxes(); after != before {
 		t.Errorf("%d mailboxes after %d", after, before)
+	}
+}
+
+// paged is a transport whose voters have a list of so many pages. Each first question for a page is lost.
+type paged struct {
+	box   chan transport.Message
+	pages int
+	asked map[string]int
+}
+
+func (c *paged) Listen(string) (<-chan transport.Message, error) { return c.box, nil }
+
+func (c *paged) Send(mailbox string, message []byte) error {
+	asked, lines, err := wire.Read(message)
+	if err != nil || mailbox != wire.ReadBox(asked.Cluster, 1, "bob") {
+		return fmt.Errorf("%s: %v", mailbox, err)
+	}
+	words := string(lines)
+	if c.asked[words]++; c.asked[words] == 1 {
+		return nil
+	}
+	var page, next int
+	if _, err := fmt.Sscanf(words, "votes %d\n", &page); err != nil {
+		return err
+	}
+	if page+1 < c.pages {
+		next = page + 1
+	}
+	reply := wire.Header{Cluster: asked.Cluster, Coterie: asked.Coterie, Kind: wire.FromVoter, Number: 1, Name: "identity"}
+	c.box <- transport.Message{Mailbox: wire.ReplyBox("test", "bob."+asked.Name, 1),
+		Data: append(reply.Append(nil), fmt.Sprintf(`{"votes":[{"lock":"x%d"}],"next":%d}`, page, next)...)}
+	return nil
+}
+
+// All pages of a list are read, each once, also if a question is lost. Without time for all there is an error.
+func TestPagesOfAList(t *testing.T) {
+	for pages, most := range map[int]time.Duration{1: 5 * time.Second, 4: 5 * time.Second, 100: 300 * time.Millisecond} {
+		ctx, cancel := context.WithTimeout(context.Background(), most)
+		c := &paged{make(chan transport.Message, 100), pages, map[string]int{}}
+		console, got := operator.New(worlds.NewCluster(t, worlds.Majority, time.Second), c, "bob"), 0
+		err := console.List(ctx, "votes", 1, func(page []byte) error {
+			if want := fmt.Sprintf(`"x%d"`, got); !strings.Contains(string(page), want) {
+				return fmt.Errorf("%s without %s", page, want)
+			}
+			got++
+			return nil
+		})
+		cancel()
+		if pages < 100 && (err != nil || got != pages) || pages == 100 && !errors.Is(err, operator.ErrSilent) {
+			t.Errorf("%d of %d pages: %v", got, pages, err)
+		}
 	}
 }

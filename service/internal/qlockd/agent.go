@@ -6,14 +6,13 @@ import (
 	"context"
 	"errors"
 	"fmt"
-	"io"
-	"log"
 	"net"
 	"net/http"
 	"sync"
 	"sync/atomic"
 	"time"
 
+	"calvundek.example/service/internal/bounded"
 	"calvundek.example/service/internal/config"
 	"calvundek.example/service/internal/event"
 	"calvundek.example/service/internal/wire"
@@ -31,12 +30,6 @@ const (
 	brief     = 5 * time.Second
 )
 
-// How many connections there may be at once to the address of /metrics and /healthz, and how long a reply may take there.
-const (
-	mostShown = 16
-	longShown = 10 * time.Second
-)
-
 // errNoSession is returned while no quorum of voters gave the agent a number.
 var errNoSession = errors.New("the agent has no session")
 
@@ -44,7 +37,7 @@ var errNoSession = errors.New("the agent has no session")
 type Config struct {
 	Locks       locks.Config
 	Log         *event.Log
-	Connections int64 // how many there may be at once, any number if 0
+	Connections int64 // how many there may be at once, any number if 0; of one user of the host three times as many as are left
 }
 
 // Agent has one session at a time, and the places of its clients.
@@ -52,7 +45,7 @@ type Agent struct {
 	config      Config
 	registry    *prometheus.Registry
 	counts      counts
-	connections atomic.Int64
+	connections bounded.Connections
 	lost        atomic.Uint64 // locks that were lost while a client had them
 	begun       atomic.Uint64 // sessions
 	closing     chan struct{} // closed when the agent ends
@@ -100,10 +93,10 @@ func New(c Config) *Agent {
 
 // Serve answers what comes to a socket until the context ends. Then it tells who has a lock, and waits for them for a TTL.
 func (a *Agent) Serve(ctx context.Context, listener net.Listener) error {
-	server := a.server(a.handler())
+	server := bounded.Server(readsFirst(a.handler(), a.refuse))
 	server.ConnContext = withCaller
 	failed := make(chan error, 1)
-	go func() { failed <- a.serve(server, bounded{listener, a.config.Connections, &a.connections, a}) }()
+	go func() { failed <- server.Serve(a.bounded(listener, a.config.Connections, &a.connections)) }()
 	sessions, stop := context.WithCancel(context.Background())
 	ended := make(chan struct{})
 	go func() { a.haveSessions(sessions); close(ended) }()
@@ -128,8 +121,7 @@ func (a *Agent) Show(ctx context.Context, address string) error {
 	}
 	mux := http.NewServeMux()
 	a.show(mux)
-	server := a.server(mux)
-	server.ReadTimeout, server.WriteTimeout = brief, longShown // who does not read keeps none
+	server := bounded.Shows(mux)
 	go a.keepsShowing(server, listener)
 	go func() { <-ctx.Done(); _ = server.Close() }()
 	return nil
@@ -137,47 +129,14 @@ func (a *Agent) Show(ctx context.Context, address string) error {
 
 // keepsShowing answers what comes to a listener until the server is closed.
 func (a *Agent) keepsShowing(server *http.Server, listener net.Listener) {
-	if err := a.serve(server, bounded{listener, mostShown, new(atomic.Int64), a}); !errors.Is(err, http.ErrServerClosed) {
+	if err := server.Serve(a.bounded(listener, bounded.MostShown, new(bounded.Connections))); !errors.Is(err, http.ErrServerClosed) {
 		a.config.Log.Write(event.Error, "metrics-failed", "why", err)
 	}
 }
 
-func (a *Agent) server(handler http.Handler) *http.Server {
-	return &http.Server{Handler: handler, ReadHeaderTimeout: brief, IdleTimeout: brief, MaxHeaderBytes: 1 << 14,
-		ErrorLog: log.New(io.Discard, "", 0)}
-}
-
-// serve answers what comes to a listener, and counts the connections that end.
-func (a *Agent) serve(server *http.Server, listener bounded) error {
-	server.ConnState = func(_ net.Conn, state http.ConnState) {
-		if state == http.StateClosed {
-			listener.now.Add(-1)
-		}
-	}
-	return server.Serve(listener)
-}
-
-// bounded ends connections that are too many as soon as they come: who has a lock keeps it.
-type bounded struct {
-	net.Listener
-	most  int64 // any number if 0
-	now   *atomic.Int64
-	agent *Agent
-}
-
-func (b bounded) Accept() (net.Conn, error) {
-	for {
-		connection, err := b.Listener.Accept()
-		if err != nil {
-			return nil, err
-		}
-		if now := b.now.Add(1); b.most == 0 || now <= b.most {
-			return connection, nil
-		}
-		b.now.Add(-1)
-		b.agent.counts.add("connections")
-		_ = connection.Close()
-	}
+// bounded returns a listener with so many connections at most.
+func (a *Agent) bounded(listener net.Listener, most int64, now *bounded.Connections) bounded.Listener {
+	return bounded.Listener{Listener: listener, Most: most, Now: now, UserOf: userOf, Refused: func() { a.counts.add("connections") }}
 }
 
 // drain lets nobody in any more, and waits until all locks are given back. Who has one may go on for a TTL.

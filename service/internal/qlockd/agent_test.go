@@ -23,6 +23,7 @@ import (
 	"calvundek.example/service/agent"
 	"calvundek.example/service/guard"
 	"calvundek.example/service/internal/boot"
+	"calvundek.example/service/internal/bounded"
 	"calvundek.example/service/internal/bus"
 	"calvundek.example/service/internal/config"
 	"calvundek.example/service/internal/event"
@@ -473,6 +474,9 @@ func TestTooManyConnections(t *testing.T) {
 	if _, err := idle[24].Read(make([]byte, 1)); err != io.EOF {
 		t.Error(err)
 	}
+	if have := h.agent.connections.Load(); have != 15 {
+		t.Errorf("one user has %d of 20 connections, and leaves the others to other users", have)
+	}
 	s.later(first)
 	for _, connection := range idle {
 		_ = connection.Close()
@@ -483,6 +487,34 @@ func TestTooManyConnections(t *testing.T) {
 	}
 	if _, body := h.call("GET", "/metrics"); !strings.Contains(body, `qlock_agent_replies_total{fault="connections"}`) {
 		t.Error("nobody counts them")
+	}
+	_ = s.connection.Close()
+}
+
+// A request whose body does not come in time is refused, and its connection ends, whatever it asks. A lock that is held lasts on.
+func TestBodyThatNeverComes(t *testing.T) {
+	defer func(before time.Duration) { bodyTime = before }(bodyTime)
+	bodyTime = 300 * time.Millisecond
+	h := start(t, ttl)
+	s, first := h.take("x")
+	for _, request := range []string{"POST /v1/locks/s", "GET /v1/status", "GET /v1/watch/s", "DELETE /v1/locks/s", "GET /healthz", "PUT /nowhere"} {
+		connection, err := net.Dial("unix", h.socket)
+		if err != nil {
+			t.Fatal(err)
+		}
+		defer connection.Close()
+		began := time.Now()
+		_, _ = io.WriteString(connection, request+" HTTP/1.1\r\nHost: q\r\nContent-Length: 1000\r\n\r\n{")
+		_ = connection.SetReadDeadline(began.Add(20 * time.Second))
+		if said, err := io.ReadAll(connection); err != nil || !strings.HasPrefix(string(said), "HTTP/1.1 400 ") ||
+			!strings.Contains(string(said), `"fault":"request"`) || time.Since(began) < bodyTime {
+			t.Errorf("%s: %q, %v, after %v", request, said, err, time.Since(began))
+		}
+	}
+	h.until("the connections end", func() bool { return h.agent.connections.Load() == 1 })
+	s.later(first)
+	if got := h.refused("x?try=1"); got != "409 held" {
+		t.Error(got)
 	}
 	_ = s.connection.Close()
 }
@@ -531,7 +563,7 @@ func TestShowFails(t *testing.T) {
 		}
 		log := &lines{filepath.Join(t.TempDir(), "log")}
 		a := New(Config{Log: event.To(log)})
-		server := a.server(http.NewServeMux())
+		server := bounded.Shows(http.NewServeMux())
 		if fails {
 			_ = listener.Close()
 		} else {
@@ -558,7 +590,7 @@ func TestTooManyWhoLook(t *testing.T) {
 		t.Fatal(err)
 	}
 	var idle []net.Conn
-	for n := 0; n < mostShown+4; n++ {
+	for n := 0; n < bounded.MostShown+4; n++ {
 		connection, err := net.Dial("tcp", address)
 		if err != nil {
 			t.Fatal(err)

@@ -12,6 +12,7 @@ import (
 	"syscall"
 	"time"
 
+	"calvundek.example/service/internal/bounded"
 	"golang.org/x/sys/unix"
 )
 
@@ -24,7 +25,7 @@ type peer struct {
 }
 
 // nobody is the user of a connection of which the kernel says nothing.
-const nobody = -1
+const nobody = bounded.Nobody
 
 // login returns the user's name, or else its number.
 func (p peer) login() string {
@@ -69,14 +70,26 @@ func control(connection net.Conn, f func(file int)) {
 	}
 }
 
-// peerOf returns the process at the other end of a connection.
-func peerOf(connection net.Conn) peer {
-	p := peer{UID: nobody}
+// whose returns the process and the user at the other end of a connection, 0 and nobody if the kernel does not say.
+func whose(connection net.Conn) (pid, uid int) {
+	uid = nobody
 	control(connection, func(file int) {
 		if said, err := unix.GetsockoptUcred(file, unix.SOL_SOCKET, unix.SO_PEERCRED); err == nil {
-			p.Pid, p.UID = int(said.Pid), int(said.Uid)
+			pid, uid = int(said.Pid), int(said.Uid)
 		}
 	})
+	return pid, uid
+}
+
+// userOf returns the user at the other end of a connection.
+func userOf(connection net.Conn) int {
+	_, uid := whose(connection)
+	return uid
+}
+
+// peerOf returns the process at the other end of a connection.
+func peerOf(connection net.Conn) (p peer) {
+	p.Pid, p.UID = whose(connection)
 	p.User = nameOf(p.UID)
 	if command, err := os.ReadFile("/proc/" + strconv.Itoa(p.Pid) + "/comm"); p.Pid > 0 && err == nil {
 		p.Command = strings.TrimSpace(string(command))

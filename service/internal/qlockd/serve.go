@@ -17,6 +17,7 @@ import (
 	"time"
 
 	"calvundek.example/service/internal/boot"
+	"calvundek.example/service/internal/bounded"
 	"calvundek.example/service/internal/view"
 	"calvundek.example/service/locks"
 	"calvundek.example/service/qlock"
@@ -27,6 +28,9 @@ import (
 
 // mostBody is how long the body of a request may be.
 const mostBody = 1 << 12
+
+// bodyTime is how long it may take to come.
+var bodyTime = bounded.Brief
 
 // tryFor is how long a try waits for votes if nobody says.
 const tryFor = 10 * time.Second
@@ -127,6 +131,27 @@ func (a *Agent) handler() http.Handler {
 			}
 		}
 		mux.ServeHTTP(w, r)
+	})
+}
+
+// readsFirst reads the body of each request, within a time, and then answers it: a connection's end is seen from then on. Package http would
+// wait for a body that nobody reads before it replies, and a time for whole requests would end a lock that is held.
+func readsFirst(next http.Handler, refuse func(w http.ResponseWriter, err error)) http.Handler {
+	return http.HandlerFunc(func(w http.ResponseWriter, r *http.Request) {
+		limit := func(time.Time) {}
+		if c, is := r.Context().Value(callerKey{}).(*caller); is {
+			limit = func(until time.Time) { _ = c.connection.SetReadDeadline(until) }
+		}
+		limit(time.Now().Add(bodyTime))
+		body, err := io.ReadAll(http.MaxBytesReader(w, r.Body, mostBody))
+		if err != nil { // the rest has no more time
+			w.Header().Set("Connection", "close")
+			refuse(w, fmt.Errorf("%w: %v", errRequest, err))
+			return
+		}
+		limit(time.Time{})
+		r.Body = io.NopCloser(bytes.NewReader(body))
+		next.ServeHTTP(w, r)
 	})
 }
 
@@ -331,8 +356,7 @@ func (a *Agent) within(connection context.Context, wait time.Duration) (ctx cont
 // lock takes a lock, and keeps it as long as the connection lasts.
 func (a *Agent) lock(w http.ResponseWriter, r *http.Request, name string) {
 	came := boot.Uptime()
-	// a connection's end is seen once the body was read
-	body, err := io.ReadAll(http.MaxBytesReader(w, r.Body, mostBody))
+	body, err := io.ReadAll(r.Body)
 	if err != nil {
 		a.refuse(w, fmt.Errorf("%w: %v", errRequest, err))
 		return
@@ -500,7 +524,6 @@ func (a *Agent) streamWhileAlive(w http.ResponseWriter, ctx context.Context, end
 		a.refuse(w, err)
 		return
 	}
-	defer a.connections.Add(-1) // package http does not say any more that it ends
 	defer connection.Close()
 	go p.readLines(connection, behind(connection, said.Reader), idle, ends)
 	lines := json.NewEncoder(connection)

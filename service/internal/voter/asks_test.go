@@ -55,7 +55,7 @@ func TestWhoSeesNotes(t *testing.T) {
 			t.Errorf("%s: %q", about, reply)
 		}
 	}
-	if s := d.status(time.Now()); s.Sessions[1].Number != 1 || s.Sessions[1].Note != "m1 17 root nightly" || s.Sessions[2].Note != "" ||
+	if s := allOf(t, d); s.Sessions[1].Number != 1 || s.Sessions[1].Note != "m1 17 root nightly" || s.Sessions[2].Note != "" ||
 		s.Votes[0].Note != "yes" {
 		t.Errorf("%+v", s)
 	}
@@ -93,7 +93,7 @@ func TestWhoseNoteItIs(t *testing.T) {
 func TestNoteAfterAStart(t *testing.T) {
 	d := sessions(t, 1)
 	d.repliesTo("jobs", 1, ". note one\n")
-	if err := d.save(time.Now()); err != nil {
+	if err := d.save(); err != nil {
 		t.Fatal(err)
 	}
 	again := reopened(t, d)

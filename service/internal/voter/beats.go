@@ -112,7 +112,7 @@ func (d *Daemon) beat(h wire.Header, lines []byte, now time.Time) {
 			break
 		}
 		if d.outBytes > mostOut || r != nil && !r.mayHear(bits.OnesCount64(ask.Mask), now, d.leases.ttl) {
-			d.noRoom.Add(1)
+			d.noRoom.Add(userOf(h.Name))
 			return
 		}
 		reply := wire.Told{Kind: wire.Unbeaten, ID: h.Seq, Place: ask.Place}

@@ -6,6 +6,7 @@ import (
 	"testing"
 	"time"
 
+	"calvundek.example/service/internal/voter/outbox"
 	"calvundek.example/service/internal/wire"
 	"calvundek.example/service/transport"
 	"github.com/prometheus/client_golang/prometheus/testutil"
@@ -126,7 +127,7 @@ func TestJunkOfABundleIsNotKept(t *testing.T) {
 func (d *Daemon) delivers(t *testing.T) map[string][]string {
 	t.Helper()
 	m := &mail{sent: map[string][]string{}}
-	d.carrier = m
+	d.sender = outbox.NewSender(m)
 	if err := d.commit(time.Now()); err != nil {
 		t.Fatal(err)
 	}

@@ -14,6 +14,7 @@ import (
 	"calvundek.example/service/internal/event"
 	"calvundek.example/service/internal/level"
 	"calvundek.example/service/internal/moment"
+	"calvundek.example/service/internal/voter/outbox"
 	"calvundek.example/service/internal/wire"
 	"calvundek.example/service/qlock"
 	"calvundek.example/service/transport"
@@ -25,7 +26,6 @@ var ErrSave = errors.New("the state can't be saved")
 const (
 	tick        = 50 * time.Millisecond
 	longestAway = 10 * time.Second // of the broker, before it is logged
-	longest     = 10 * time.Second // for which a step that sends nothing waits for the next save
 )
 
 // Daemon is a voter.
@@ -33,7 +33,8 @@ type Daemon struct {
 	cluster *config.Cluster
 	own     *config.Voter
 	store   *store
-	carrier transport.Transport
+	draft   outbox.Draft[*vote]
+	sender  outbox.Sender
 	link    transport.Link // nil if the transport has none
 	log     *event.Log
 	m       *metrics
@@ -70,11 +71,8 @@ type Daemon struct {
 	marks         map[string]string // by which plan a session speaks, while there are two
 	laggards      map[int]laggard   // the sessions, by their keys, without a request here that hinder a retirement
 
-	dirty    map[*vote]struct{} // changed since the last save, and something leaves that depends on it
-	silent   map[*vote]struct{} // changed since the last save, and nothing does
-	savedAll time.Time          // when nothing was left to save
-	out      map[string][]byte  // lines that leave after the save, by session
-	sealed   []sealed           // those that leave before, with the lapses of when they were said
+	out      map[string][]byte // lines that leave after the save, by session
+	sealed   []sealed          // those that leave before, with the lapses of when they were said
 	outBytes int
 	order    []string          // of what leaves
 	bundles  []bundle          // what leaves to processes, in their order
@@ -103,11 +101,12 @@ type Daemon struct {
 	skippable       qlock.Bucket // how many more numbers may be skipped for turns
 	reach           uint64       // up to which number they may be now
 	voters          <-chan transport.Message
-	floor, ceiling  uint64            // its grants are above the floor, and up to the ceiling
-	raised          raised            // the same of votes that were there as it was noted last
-	nothing         qlock.SinceStart  // of votes of which nothing was said since the start
-	markers         [keyBytes]byte    // the key of this run's markers
-	done            map[string][]byte // replies to what operators let go, by their questions
+	floor, ceiling  uint64           // its grants are above the floor, and up to the ceiling
+	raised          raised           // the same of votes that were there as it was noted last
+	nothing         qlock.SinceStart // of votes of which nothing was said since the start
+	markers         [keyBytes]byte   // the key of this run's markers
+	done            done
+	questions       questions
 	messages, reads <-chan transport.Message
 	writes          <-chan transport.Message // what operators want done
 	inbox           inbox
@@ -119,7 +118,7 @@ type Daemon struct {
 	lively          atomic.Int64 // when the loop last went round, as a moment.Moment
 	marked          atomic.Int64 // when the last marker left that came back, since the start, whatever the clock on the wall does
 	waits           atomic.Int64 // messages in the inbox
-	noRoom          atomic.Uint64
+	noRoom          transport.Drops
 }
 
 // Owner returns whose state a voter has to have.
@@ -146,12 +145,11 @@ func OpenIn(around Surroundings, own *config.Voter, cluster *config.Cluster, car
 		return nil, err
 	}
 	now := around.Now()
-	d := &Daemon{cluster: cluster, own: own, store: state, carrier: carrier, log: log, m: newMetrics(), around: around,
+	d := &Daemon{cluster: cluster, own: own, store: state, sender: outbox.NewSender(carrier), log: log, m: newMetrics(), around: around,
 		votes: map[string]*vote{}, users: map[string]*usage{},
-		dirty: map[*vote]struct{}{}, silent: map[*vote]struct{}{},
 		leases: leases{ttl: cluster.TTL.Duration},
 		out:    map[string][]byte{}, replies: map[string]answer{}, started: now, away: now,
-		entries: entriesBefore(state), done: map[string][]byte{}, newPeers: map[int]Peer{}, gone: map[string]struct{}{}, restsFor: shortestRest,
+		entries: entriesBefore(state), newPeers: map[int]Peer{}, gone: map[string]struct{}{}, restsFor: shortestRest,
 		floors: map[int]Floor{}, newFloors: map[int]Floor{}}
 	if d.restsFor < 2*cluster.TTL.Duration {
 		d.restsFor = 2 * cluster.TTL.Duration
@@ -171,7 +169,7 @@ func OpenIn(around Surroundings, own *config.Voter, cluster *config.Cluster, car
 		d.store.disk.Close()
 		return nil, err
 	}
-	if err := d.listen(); err != nil {
+	if err := d.listen(carrier); err != nil {
 		d.store.disk.Close()
 		return nil, err
 	}
@@ -391,7 +389,7 @@ func (d *Daemon) extends(v *vote) bool {
 func (d *Daemon) note(v *vote, client int, shown qlock.LockShown, lines []byte, now time.Time) {
 	if shown.MustSave || v.isRaised { // what was saved last differs in nothing else from the state before a step
 		v.isRaised = false
-		d.silent[v] = struct{}{}
+		d.draft.May(v)
 	}
 	d.noteAsk(v, client, shown.Stamp, now)
 	d.noteGrant(v, shown.Held, now)
@@ -419,16 +417,8 @@ func (d *Daemon) refuse(v *vote, why error) {
 // deny tells a client that its REQUEST is over here: it was let go. It would wait for a reply for ever.
 func (d *Daemon) deny(v *vote, h wire.Header, said wire.Line, shown qlock.LockShown) {
 	if string(said.Word) == "request" && shown.Stamp != said.Stamp && shown.Finished >= said.Stamp {
-		d.mustSave(v)
+		d.draft.Tells(v)
 		d.sayOf(h.Name, qlock.LockSays{Kind: qlock.LockGone, Lock: []byte(v.name), Stamp: said.Stamp})
-	}
-}
-
-// mustSave notes that something leaves which depends on how a vote is now.
-func (d *Daemon) mustSave(v *vote) {
-	if _, is := d.silent[v]; is {
-		delete(d.silent, v)
-		d.dirty[v] = struct{}{}
 	}
 }
 
@@ -436,7 +426,7 @@ func (d *Daemon) mustSave(v *vote) {
 // heard in this run hears nothing: a reminder, or the reply to what he says next, repeats it.
 func (d *Daemon) send(v *vote, lines []byte) {
 	if len(lines) > 0 {
-		d.mustSave(v)
+		d.draft.Tells(v)
 	}
 	for len(lines) > 0 {
 		end := bytes.IndexByte(lines, '\n') + 1
@@ -764,7 +754,7 @@ func (d *Daemon) letGoBy(v *vote, now time.Time, call func(out []byte) ([]byte, 
 // isGone tells the client of a grant that its request is over, or an operator.
 func (d *Daemon) isGone(v *vote, held qlock.Grant, now time.Time) {
 	v.needs().letGo = moment.Of(now)
-	d.mustSave(v)
+	d.draft.Tells(v)
 	if row := v.shard.row(int(held.Client)); row.Open && held.Stamp > row.Base {
 		d.sayOf(v.shard.name(int(held.Client)), qlock.LockSays{Kind: qlock.LockGone, Lock: []byte(v.name), Stamp: held.Stamp})
 	}

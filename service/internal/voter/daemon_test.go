@@ -2,76 +2,17 @@ package voter
 
 import (
 	"bytes"
-	"encoding/json"
 	"fmt"
-	"math/rand"
 	"testing"
 	"time"
 
 	"calvundek.example/service/internal/config"
 	"calvundek.example/service/internal/event"
-	"calvundek.example/service/internal/wire"
+	"calvundek.example/service/internal/voter/outbox"
 	"calvundek.example/service/qlock"
 	"calvundek.example/service/transport"
 	"github.com/prometheus/client_golang/prometheus/testutil"
 )
-
-// A status that is too long for a message shows fewer votes, and says how many it left out.
-func TestLongStatus(t *testing.T) {
-	s := Status{Votes: make([]VoteView, 400)}
-	for i := range s.Votes {
-		s.Votes[i] = VoteView{Lock: fmt.Sprintf("orders.%d", i), Waiting: make([]WaiterView, 60)}
-	}
-	text := written(s)
-	if len(text) > mostReply {
-		t.Fatal(len(text))
-	}
-	var got Status
-	if err := json.Unmarshal(text, &got); err != nil || len(got.Votes) == 0 || got.Dropped+len(got.Votes) != 400 {
-		t.Error(len(got.Votes), got.Dropped, err)
-	}
-}
-
-// slow is a carrier to an operator that lets whoever sends wait.
-type slow struct {
-	post
-	sent chan []byte
-}
-
-func (s *slow) Send(_ string, message []byte) error { s.sent <- message; return nil }
-
-// A status is written and sent outside of the loop. It has the first votes by their names.
-func TestStatusOutsideOfTheLoop(t *testing.T) {
-	now, carrier := time.Unix(1000, 0), &slow{sent: make(chan []byte)}
-	d := &Daemon{cluster: &config.Cluster{ID: "test"}, own: &config.Voter{}, carrier: carrier, m: newMetrics(),
-		store: &store{meta: Meta{Cluster: "test", Identity: "copy"}}, mark: "mark",
-		replies: map[string]answer{}, done: map[string][]byte{}, leases: leasesAt(now)}
-	for _, i := range rand.New(rand.NewSource(1)).Perm(3 * mostShown) {
-		d.busy.add(&vote{name: fmt.Sprintf("orders-%05d", i)}, inBusy)
-	}
-	header := wire.Header{Cluster: "test", Coterie: "mark", Kind: wire.FromOperator, Name: "op"}
-	d.operate(transport.Message{Mailbox: wire.ReadBox("test", 0, "alice"), Data: append(header.Append(nil), "status\n"...)}, false, now)
-	delivered := make(chan struct{})
-	go func() { d.deliver(); close(delivered) }()
-	select {
-	case <-delivered:
-	case <-time.After(5 * time.Second):
-		t.Error("the loop waits for a status")
-	}
-	_, body, err := wire.Read(<-carrier.sent)
-	var s Status
-	if err != nil || json.Unmarshal(body, &s) != nil {
-		t.Fatal(string(body), err)
-	}
-	if len(s.Votes) != mostShown || s.Dropped != 2*mostShown {
-		t.Error(len(s.Votes), s.Dropped)
-	}
-	for i, v := range s.Votes {
-		if want := fmt.Sprintf("orders-%05d", i); v.Lock != want {
-			t.Fatalf("%s in place of %s", v.Lock, want)
-		}
-	}
-}
 
 // post is a carrier that keeps what was sent.
 type post struct{ sent [][]byte }
@@ -79,6 +20,44 @@ type post struct{ sent [][]byte }
 func (p *post) Send(_ string, message []byte) error { p.sent = append(p.sent, message); return nil }
 
 func (p *post) Listen(string) (<-chan transport.Message, error) { return nil, nil }
+
+// posts returns where all is put that a voter sends from now on.
+func (d *Daemon) posts() *post {
+	p := &post{}
+	d.sender = outbox.NewSender(p)
+	return p
+}
+
+// nothing is a state in which nothing changed.
+type nothing struct{}
+
+func (nothing) MustSave() bool                { return false }
+func (nothing) MaySave() bool                 { return false }
+func (nothing) Save(map[*vote]struct{}) error { return nil }
+
+// changed returns how many votes are not saved.
+func (d *Daemon) changed() (count int) {
+	for _, v := range d.votes {
+		if must, may := d.draft.Has(v); must || may {
+			count++
+		}
+	}
+	return count
+}
+
+// save saves all that changed.
+func (d *Daemon) save() error {
+	d.draft.Hasten()
+	_, err := d.draft.Commit(time.Now(), unsaved{d})
+	return err
+}
+
+// deliver sends what leaves after a save without one.
+func (d *Daemon) deliver() {
+	d.address()
+	saved, _ := d.draft.Commit(time.Now(), nothing{})
+	d.sender.Deliver(saved)
+}
 
 // says lets the session that has a number say a line about a lock.
 func says(d *Daemon, v *vote, client int, line string, now time.Time) {
@@ -97,7 +76,7 @@ func TestSpentLock(t *testing.T) {
 	var log bytes.Buffer
 	now := time.Unix(1000, 0)
 	d := &Daemon{own: &config.Voter{}, store: &store{}, ceiling: 1, join: joining{done: true}, m: newMetrics(), log: event.To(&log), votes: map[string]*vote{},
-		dirty: map[*vote]struct{}{}, silent: map[*vote]struct{}{}, users: map[string]*usage{}, out: map[string][]byte{}, leases: newLeases(), cluster: &config.Cluster{}}
+		users: map[string]*usage{}, out: map[string][]byte{}, leases: newLeases(), cluster: &config.Cluster{}}
 	voter, err := qlock.NewVoter(0, 1)
 	if err != nil {
 		t.Fatal(err)
@@ -134,7 +113,7 @@ func TestSpentCeilingIsLoggedOnce(t *testing.T) {
 func TestEachLineLeaves(t *testing.T) {
 	now := time.Unix(1000, 0)
 	d := &Daemon{cluster: &config.Cluster{}, own: &config.Voter{}, store: &store{}, ceiling: 10, m: newMetrics(), votes: map[string]*vote{},
-		users: map[string]*usage{}, dirty: map[*vote]struct{}{}, silent: map[*vote]struct{}{}, out: map[string][]byte{},
+		users: map[string]*usage{}, out: map[string][]byte{},
 		leases: leasesAt(now)}
 	voter, err := qlock.NewVoter(0, 10)
 	if err != nil {
@@ -184,13 +163,13 @@ func TestRoundAfterASlowTurn(t *testing.T) {
 	d.repliesTo("jobs", 2, "orders request 2 0 6\n")
 	now := d.now()
 	d.around.Now = func() time.Time { return now }
-	d.carrier = &heldUp{takes: func() { now = now.Add(3 * time.Second) }}
+	d.sender = outbox.NewSender(&heldUp{takes: func() { now = now.Add(3 * time.Second) }})
 	before := testutil.ToFloat64(d.m.reminders)
 	for i := 0; i < 2; i++ {
 		if _, err := d.Turn(); err != nil {
 			t.Fatal(err)
 		}
-		d.carrier = &post{}
+		d.sender = outbox.NewSender(&post{})
 		now = now.Add(2 * tick)
 	}
 	if testutil.ToFloat64(d.m.reminders) == before {

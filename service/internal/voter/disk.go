@@ -19,7 +19,6 @@ type Surroundings struct {
 	Now    func() time.Time // never falls
 	Random io.Reader        // for what nobody may guess: identities, words of processes, keys of markers
 	Disk   Disk             // has the state; the file in the folder of the voter's settings if nil
-	Aside  func(func())     // runs what may take long beside the loop
 	Block  uint64           // how many grants a voter may give above what is known, at first
 }
 
@@ -33,9 +32,6 @@ func (s Surroundings) complete() Surroundings {
 	}
 	if s.Block == 0 {
 		s.Block = firstCeiling
-	}
-	if s.Aside == nil {
-		s.Aside = func(work func()) { go work() }
 	}
 	return s
 }
@@ -57,15 +53,6 @@ func (d *Daemon) firstBlock() uint64 {
 		return firstCeiling
 	}
 	return d.around.Block
-}
-
-// aside runs what may take long beside the loop.
-func (d *Daemon) aside(work func()) {
-	if d.around.Aside == nil {
-		go work()
-		return
-	}
-	d.around.Aside(work)
 }
 
 // Disk keeps a voter's state: rows with a key, in buckets. The rows have checksums (rows.go), so a disk need not see what is

@@ -240,7 +240,7 @@ func TestTurnsGrowOverARetirement(t *testing.T) {
 		d := sessions(t, 1, 2)
 		d.repliesTo("jobs", 1, "orders request 1 0 5\n")
 		now, grant := time.Now(), d.votes["orders"].held().Number
-		if err := d.save(now); err != nil {
+		if err := d.save(); err != nil {
 			t.Fatal(err)
 		}
 		if isPacked {

@@ -67,7 +67,7 @@ func TestUnusedShardIsDropped(t *testing.T) {
 	says(2, 7, 1, ". claim 7 1 10\n")
 	says(2, 7, 1, ". open 0\n")
 	before := d.shard(1).all()
-	if err := d.save(time.Now()); err != nil {
+	if err := d.save(); err != nil {
 		t.Fatal(err)
 	}
 	later := time.Now().Add(48 * time.Hour)
@@ -76,7 +76,7 @@ func TestUnusedShardIsDropped(t *testing.T) {
 	if d.shards[1] != nil || d.shards[2] == nil || len(d.inTurn) != len(d.shards) {
 		t.Fatalf("%d shards are there, %d in turn", len(d.shards), len(d.inTurn))
 	}
-	if err := d.save(later); err != nil {
+	if err := d.save(); err != nil {
 		t.Fatal(err)
 	}
 	c, err := contentOf(d.store)
@@ -169,7 +169,7 @@ func TestShardComesBackBeforeTheSave(t *testing.T) {
 	d, says := floored(t)
 	says(1, 5, 1, ". claim 5 1 1000\n")
 	says(1, 5, 1, ". close\n")
-	if err := d.save(time.Now()); err != nil {
+	if err := d.save(); err != nil {
 		t.Fatal(err)
 	}
 	d.goesBy(time.Now().Add(time.Hour))
@@ -177,7 +177,7 @@ func TestShardComesBackBeforeTheSave(t *testing.T) {
 		t.Fatal("it does not come back")
 	}
 	want := d.shard(1).all()
-	if err := d.save(time.Now()); err != nil {
+	if err := d.save(); err != nil {
 		t.Fatal(err)
 	}
 	d = reopened(t, d)
@@ -397,7 +397,7 @@ func TestShardIsDroppedBetweenPages(t *testing.T) {
 func TestFloorsAreSavedFirst(t *testing.T) {
 	replies := func(d *Daemon, now time.Time) *Daemon {
 		t.Helper()
-		d.savedAll = now
+		_, _ = d.draft.Commit(now, nothing{}) // no save is due
 		if d.replies["x"] = (answer{mark: d.mark, body: []byte("done")}); d.commit(now) != nil || len(d.replies) > 0 {
 			t.Fatal("no reply")
 		}
@@ -411,7 +411,7 @@ func TestFloorsAreSavedFirst(t *testing.T) {
 	d, says := floored(t)
 	says(1, 5, 1, ". claim 5 1 1000\n")
 	says(1, 5, 1, ". open 0\n")
-	if err := d.save(time.Now()); err != nil {
+	if err := d.save(); err != nil {
 		t.Fatal(err)
 	}
 	later := time.Now().Add(time.Hour)
@@ -439,7 +439,7 @@ func TestRowsOfNoEpochAreDropped(t *testing.T) {
 	d.learnAll(Knows{Sessions: map[int]Session{qlock.MaxClients + 5: taken}}, time.Now())
 	saves := func() {
 		t.Helper()
-		if err := d.save(time.Now()); err != nil {
+		if err := d.save(); err != nil {
 			t.Fatal(err)
 		}
 	}
@@ -463,7 +463,7 @@ func TestFloorsBringTheirLevel(t *testing.T) {
 	if _, err := d.learn(`{"sessions":{},"level":2,"floors":{"1":{"stamp":5,"epochs":[3]}}}`, time.Now()); err != nil {
 		t.Fatal(err)
 	}
-	if err := d.save(time.Now()); err != nil {
+	if err := d.save(); err != nil {
 		t.Fatal(err)
 	}
 	if d.store.own.level() != level.Floors || d.store.meta.Format != floorFormat {

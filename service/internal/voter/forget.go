@@ -72,8 +72,8 @@ func (d *Daemon) makeRoom(now time.Time) bool {
 
 // mustBeSaved returns whether lines of a vote leave after the next save: then the vote has to be in it.
 func (d *Daemon) mustBeSaved(v *vote) bool {
-	_, is := d.dirty[v]
-	return is
+	must, _ := d.draft.Has(v)
+	return must
 }
 
 // forgetVote forgets a vote.
@@ -81,8 +81,7 @@ func (d *Daemon) forgetVote(v *vote) {
 	d.floor = greatest(d.floor, d.highestOf(v))
 	delete(d.votes, v.name)
 	v.shard.votes--
-	delete(d.dirty, v)
-	delete(d.silent, v)
+	d.draft.Forget(v)
 	d.gone[v.name] = struct{}{}
 	d.m.forgotten.Inc()
 }

@@ -67,7 +67,7 @@ func TestOneTimeNames(t *testing.T) {
 			d.round(now)
 		}
 	}
-	if err := d.save(now); err != nil {
+	if err := d.save(); err != nil {
 		t.Fatal(err)
 	}
 	rows := 0

@@ -16,17 +16,17 @@ import (
 	"calvundek.example/service/transport"
 )
 
-func (d *Daemon) listen() (err error) {
-	if d.messages, err = d.carrier.Listen(wire.VoterBoxes(d.cluster.ID, d.store.meta.Voter)); err != nil {
+func (d *Daemon) listen(carrier transport.Transport) (err error) {
+	if d.messages, err = carrier.Listen(wire.VoterBoxes(d.cluster.ID, d.store.meta.Voter)); err != nil {
 		return err
 	}
-	if d.voters, err = d.carrier.Listen(wire.PeerBoxes(d.cluster.ID, d.store.meta.Voter)); err != nil {
+	if d.voters, err = carrier.Listen(wire.PeerBoxes(d.cluster.ID, d.store.meta.Voter)); err != nil {
 		return err
 	}
-	if d.reads, err = d.carrier.Listen(wire.ReadBox(d.cluster.ID, d.store.meta.Voter, "*")); err != nil {
+	if d.reads, err = carrier.Listen(wire.ReadBox(d.cluster.ID, d.store.meta.Voter, "*")); err != nil {
 		return err
 	}
-	d.writes, err = d.carrier.Listen(wire.WriteBox(d.cluster.ID, d.store.meta.Voter, "*"))
+	d.writes, err = carrier.Listen(wire.WriteBox(d.cluster.ID, d.store.meta.Voter, "*"))
 	return err
 }
 
@@ -70,6 +70,9 @@ func (d *Daemon) Turn() (until time.Time, err error) {
 		until = now // the rest of the last turn waits
 	case !d.join.done:
 		until = earlier(until, d.join.next)
+	}
+	if len(d.questions.waiting) > 0 {
+		until = earlier(until, d.questions.next)
 	}
 	return until, nil
 }
@@ -127,10 +130,11 @@ func (d *Daemon) Take(from From, m transport.Message) {
 	case Voters:
 		d.hearPeer(m, d.now())
 	case Readers:
-		d.operate(m, false, d.now())
+		d.question(m)
 	case Operators:
 		d.operate(m, true, d.now())
 	}
+	d.answerNext()
 	d.receive()
 	d.work()
 	d.waits.Store(int64(d.inbox.count))
@@ -139,7 +143,7 @@ func (d *Daemon) Take(from From, m transport.Message) {
 // End saves what nothing waited for, and tells all sessions that this voter leaves, so that they
 // ask others at once.
 func (d *Daemon) End() error {
-	d.savedAll = time.Time{}
+	d.draft.Hasten()
 	d.store.own.Left, d.newOwn = d.now().UnixMilli(), true
 	for _, s := range d.inTurn {
 		s.seats.each(func(number int, seat *seat) {
@@ -148,7 +152,8 @@ func (d *Daemon) End() error {
 			}
 		})
 	}
-	if err := d.commit(d.now()); err != nil {
+	now := d.now()
+	if err := d.commit(now); err != nil {
 		return err
 	}
 	if d.join.done && !d.isQuiet() && !d.awaits() { // else the next start has to be quiet, too: who is inside may wait for a vote
@@ -157,7 +162,9 @@ func (d *Daemon) End() error {
 				d.write(voter, word{Word: "ended", Process: d.join.process, Saves: d.store.saves})
 			}
 		}
-		d.deliverLetters()
+		if err := d.commit(now); err != nil {
+			return err
+		}
 	}
 	d.log.Write(event.Info, "end", "voter", d.own.Voter)
 	return nil
@@ -167,7 +174,7 @@ func (d *Daemon) End() error {
 // comes back. A server of it that reaches no other voter is left for the next one: each says a word within a TTL and tellAgain.
 func (d *Daemon) look(now time.Time) {
 	if alone := 2 * (d.cluster.TTL.Duration + tellAgain); d.others() != 0 && now.Sub(d.spokeLast()) > alone {
-		transport.Move(d.carrier, alone)
+		d.sender.Move(alone)
 	}
 	if d.link != nil && d.link.Returns() != d.returns {
 		d.returns = d.link.Returns()
@@ -195,34 +202,37 @@ func (d *Daemon) IsLively(within time.Duration) bool {
 	return d.silentFor(d.now()) < within
 }
 
-// commit saves all that changed, in one transaction, and then sends. What may be lost in a crash
-// waits for the next save, at most ten seconds: steps that send nothing, and rows of which a TTL
-// makes up for the loss.
+// commit saves all that changed, if something leaves that may depend on it, and then sends. What may be lost in a crash waits for the next
+// save: steps that send nothing, and rows of which a TTL makes up for the loss.
 func (d *Daemon) commit(now time.Time) error {
-	must := len(d.dirty)+len(d.leases.changed)+len(d.newPeers)+len(d.newFloors) > 0 || d.newPlans || d.newOwn
-	leaves := len(d.out)+len(d.sealed)+len(d.replies)+len(d.letters)+len(d.skips) > 0
-	switch {
-	case !must && len(d.leases.later)+len(d.silent)+len(d.gone) == 0:
-		d.savedAll = now
-	case must && leaves || now.Sub(d.savedAll) > longest:
-		if err := d.save(now); err != nil {
-			return err
-		}
-	}
-	if leaves {
+	if len(d.out)+len(d.sealed)+len(d.replies)+len(d.letters)+len(d.skips) > 0 {
 		d.tellSkips()
-		d.deliver()
+		d.address()
 	}
+	saved, err := d.draft.Commit(now, unsaved{d})
+	if err != nil {
+		return err
+	}
+	d.m.unsent.Add(uint64(d.sender.Deliver(saved)))
 	return nil
 }
 
-// save saves all that is not saved.
-func (d *Daemon) save(now time.Time) error {
+// unsaved is what a voter has to save.
+type unsaved struct{ *Daemon }
+
+// MustSave returns whether something changed on which what leaves may depend.
+func (u unsaved) MustSave() bool {
+	return len(u.leases.changed)+len(u.newPeers)+len(u.newFloors) > 0 || u.newPlans || u.newOwn
+}
+
+// MaySave returns whether something else did.
+func (u unsaved) MaySave() bool { return len(u.leases.later)+len(u.gone) > 0 }
+
+// Save saves all that is not saved.
+func (u unsaved) Save(votes map[*vote]struct{}) error {
+	d := u.Daemon
 	began := d.now()
-	for v := range d.silent {
-		d.dirty[v] = struct{}{}
-	}
-	c := changes{votes: d.dirty, gone: d.gone, sessions: d.leases.unsaved(), floors: d.newFloors, dropped: d.leases.dropped, peers: d.newPeers}
+	c := changes{votes: votes, gone: d.gone, sessions: d.leases.unsaved(), floors: d.newFloors, dropped: d.leases.dropped, peers: d.newPeers}
 	if d.newPlans {
 		c.plans = &d.plans
 	}
@@ -233,11 +243,11 @@ func (d *Daemon) save(now time.Time) error {
 		return fmt.Errorf("%w: %v", ErrSave, err)
 	}
 	d.m.commit.Observe(d.now().Sub(began).Seconds())
-	d.m.batch.Observe(float64(len(d.dirty)))
+	d.m.batch.Observe(float64(len(votes)))
 	d.leases.saved()
-	d.dirty, d.silent, d.newPeers = emptied(d.dirty), emptied(d.silent), map[int]Peer{}
+	d.newPeers = map[int]Peer{}
 	d.gone, d.newFloors = emptied(d.gone), map[int]Floor{}
-	d.newPlans, d.newOwn, d.savedAll = false, false, now
+	d.newPlans, d.newOwn = false, false
 	return nil
 }
 
@@ -254,8 +264,8 @@ func emptied[K comparable, V any](m map[K]V) map[K]V {
 	return m
 }
 
-// deliver sends what may leave.
-func (d *Daemon) deliver() {
+// address makes messages of all that leaves after the save.
+func (d *Daemon) address() {
 	header, runs := d.header(), d.runs()
 	d.outBytes = 0
 	d.deliverLetters()
@@ -283,13 +293,8 @@ func (d *Daemon) deliver() {
 	}
 	sort.Strings(d.order)
 	for _, box := range d.order {
-		box, reply := box, d.replies[box]
-		header.Coterie, header.Lapses = reply.mark, 0
-		if begin := header.Append(nil); reply.status != nil {
-			d.aside(func() { d.post(box, append(begin, reply.text()...)) })
-		} else {
-			d.post(box, append(begin, reply.text()...))
-		}
+		header.Coterie, header.Lapses = d.replies[box].mark, 0
+		d.post(box, append(header.Append(nil), d.replies[box].body...))
 		delete(d.replies, box)
 	}
 }
@@ -301,7 +306,7 @@ type sealed struct {
 	lapses  uint64
 }
 
-// deliverTo sends lines to a session, with this count of its lapses. What goes to a session of a process that takes bundles waits for the
+// deliverTo lets lines leave to a session, with this count of its lapses. What goes to a session of a process that takes bundles waits for the
 // others of this turn.
 func (d *Daemon) deliverTo(header wire.Header, session string, runs, lines []byte, lapses uint64) {
 	header.Coterie, header.Lapses = d.speaks(session), lapses
@@ -315,9 +320,5 @@ func (d *Daemon) deliverTo(header wire.Header, session string, runs, lines []byt
 	})
 }
 
-// post sends one message. What can't be sent is lost: a reminder repeats it.
-func (d *Daemon) post(box string, message []byte) {
-	if d.carrier.Send(box, message) != nil {
-		d.m.unsent.Add(1)
-	}
-}
+// post lets one message leave after the save. What can't be sent is lost: a reminder repeats it.
+func (d *Daemon) post(box string, message []byte) { d.draft.Say(box, message) }

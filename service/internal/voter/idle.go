@@ -99,9 +99,8 @@ func (d *Daemon) packSome(now time.Time) {
 
 // isIdle returns whether a vote is saved, and nobody waits for it.
 func (d *Daemon) isIdle(v *vote) bool {
-	_, isDirty := d.dirty[v]
-	_, isSilent := d.silent[v]
-	return !isDirty && !isSilent && !v.isWanted() && !v.isAwaited()
+	must, may := d.draft.Has(v)
+	return !must && !may && !v.isWanted() && !v.isAwaited()
 }
 
 // tidy drops the extras of a vote for which nobody waits, if it is packed and has none that it needs.

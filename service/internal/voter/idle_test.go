@@ -9,6 +9,7 @@ import (
 	"time"
 
 	"calvundek.example/service/internal/moment"
+	"calvundek.example/service/internal/voter/outbox"
 	"calvundek.example/service/qlock"
 	"github.com/prometheus/client_golang/prometheus/testutil"
 )
@@ -31,7 +32,7 @@ func holds(t testing.TB, d *Daemon, number int, name string, many int, now time.
 
 // saves notes that all votes are saved, and that nothing leaves.
 func (d *Daemon) saves() {
-	d.dirty, d.silent, d.out, d.outBytes = map[*vote]struct{}{}, map[*vote]struct{}{}, map[string][]byte{}, 0
+	d.draft, d.out, d.outBytes = outbox.Draft[*vote]{}, map[string][]byte{}, 0
 }
 
 // packsAll lets rounds pass until votes that are not used are packed, and returns the time then.
@@ -112,7 +113,7 @@ func TestWhatWasSaidIsPacked(t *testing.T) {
 func TestRestoredVotesArePacked(t *testing.T) {
 	d, _ := alone(t, 100)
 	holds(t, d, 1, "lock", 20, time.Now())
-	if err := d.save(time.Now()); err != nil {
+	if err := d.save(); err != nil {
 		t.Fatal(err)
 	}
 	again := reopened(t, d)
@@ -144,7 +145,8 @@ func TestWhichVotesArePacked(t *testing.T) {
 	named := func(i int) *vote { return d.votes[fmt.Sprintf("lock-%06d", i)] }
 	says(d, named(1), 2, "request 2 0 7", now)
 	d.saves()
-	d.dirty[named(2)], d.silent[named(3)] = struct{}{}, struct{}{}
+	d.draft.Must(named(2))
+	d.draft.May(named(3))
 	state := append([]byte(nil), named(0).saved()...)
 	for end := now.Add(10 * packsAfter); now.Before(end); now = now.Add(tick) {
 		d.proved(named(4))
@@ -363,7 +365,7 @@ func BenchmarkStart(b *testing.B) {
 	d, _ := alone(b, 1<<20)
 	for i := 0; i < 100; i++ {
 		holds(b, d, 1, fmt.Sprint("lock-", i), 1000, time.Now())
-		if err := d.save(time.Now()); err != nil {
+		if err := d.save(); err != nil {
 			b.Fatal(err)
 		}
 	}

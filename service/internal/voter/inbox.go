@@ -4,9 +4,9 @@ import (
 	"crypto/hmac"
 	"crypto/sha256"
 	"fmt"
+	"hash/fnv"
 	"math"
 	"sort"
-	"strconv"
 	"time"
 
 	"calvundek.example/service/internal/moment"
@@ -54,7 +54,8 @@ func (l *letter) once(word string) bool {
 	return true
 }
 
-// inbox has the messages of clients that wait: those of each number's sessions apart, in each shard, and behind them those of anybody else.
+// inbox has the messages of clients that wait: those of each number's sessions apart, in each shard, and behind them those of each user's
+// others.
 // Whoever sends much waits for himself alone, and delays no other one's heartbeats. The zero value has none.
 type inbox struct {
 	senders map[int]*sender // of which a message waits, by the keys of their numbers
@@ -70,8 +71,15 @@ type sender struct {
 	size    int
 }
 
-// strangers is the key of those that have no number here: it is behind all others.
-const strangers = math.MaxInt
+// strangers is the first key of those that have no number here: these are behind all others.
+const strangers = 1 << 62
+
+// strangersOf returns the key of those of a user that have no number here.
+func strangersOf(user string) int {
+	sum := fnv.New64a()
+	sum.Write([]byte(user))
+	return strangers | int(sum.Sum64()>>2)
+}
 
 // put puts a message behind those of its sender, and returns false if there is no room.
 func (b *inbox) put(key int, l *letter) bool {
@@ -133,8 +141,9 @@ func (d *Daemon) receive() {
 // sendMarker sends a marker to this voter itself, if it is time for one.
 func (d *Daemon) sendMarker(now time.Time) {
 	if number := d.leases.clock.Send(now.Sub(d.leases.began)); number > 0 {
-		h := d.header()
-		d.post(wire.VoterBox(h.Cluster, h.Number, strconv.Itoa(h.Number)), append(h.Append(nil), d.markerLine(number)...))
+		if d.sender.Marker(d.header(), d.markerLine(number)) != nil {
+			d.m.unsent.Add(1)
+		}
 	}
 }
 
@@ -169,7 +178,7 @@ func (d *Daemon) sort(m transport.Message) {
 	}
 	all := wire.Messages(m.Data, func(message []byte) { d.sortOne(transport.Message{Mailbox: m.Mailbox, Data: message}) })
 	if !all {
-		d.noRoom.Add(1)
+		d.noRoom.Add(m.Sender())
 	}
 }
 
@@ -197,7 +206,7 @@ func (d *Daemon) sortOne(m transport.Message) {
 		d.beat(h, lines, d.now())
 		return
 	}
-	shard, sender := d.shardOfSession(h.Name), strangers
+	shard, sender := d.shardOfSession(h.Name), strangersOf(user)
 	if shard == nil {
 		d.m.foreign.Inc()
 		return
@@ -208,7 +217,7 @@ func (d *Daemon) sortOne(m transport.Message) {
 	}
 	shard.used = moment.Of(d.now())
 	if !d.inbox.put(sender, &letter{Header: h, shard: shard, lines: lines, size: len(m.Data)}) {
-		d.noRoom.Add(1)
+		d.noRoom.Add(user)
 	}
 }
 

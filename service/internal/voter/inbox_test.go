@@ -67,8 +67,8 @@ func TestRoomOfASender(t *testing.T) {
 	}
 	d.shard(0).claim(2, "jobs.s2", 1, 0, time.Now())
 	d.sort(message(2, 1, "s2", ". open 0\n"))
-	if d.noRoom.Load() < 90 || d.inbox.senders[strangers].size > mostWaiting || len(d.inbox.senders[2].letters) != 1 {
-		t.Errorf("%d are dropped, %d bytes wait", d.noRoom.Load(), d.inbox.senders[strangers].size)
+	if d.noRoom.Load() < 90 || d.inbox.senders[strangersOf("jobs")].size > mostWaiting || len(d.inbox.senders[2].letters) != 1 {
+		t.Errorf("%d are dropped, %d bytes wait", d.noRoom.Load(), d.inbox.senders[strangersOf("jobs")].size)
 	}
 	foreign := testutil.ToFloat64(d.m.foreign)
 	if d.sort(message(2, 1, "s2", strings.Repeat("x",
@@ -184,5 +184,49 @@ func TestATurnEnds(t *testing.T) {
 	if took := time.Since(began); took > 10*longestTurn || d.outBytes > 2*mostOut || d.inbox.count == 0 ||
 		d.inbox.count == before {
 		t.Errorf("a turn takes %v, %d bytes leave, and %d of %d messages wait", took, d.outBytes, d.inbox.count, before)
+	}
+}
+
+// Whoever has no number waits behind others of his user alone: one user's made-up sessions take no room and no turn of another user's.
+func TestNewcomersOfOtherUsers(t *testing.T) {
+	d, began := reader(), time.Unix(1000, 0)
+	d.around.Now = func() time.Time { return began }
+	const flood = 20_000
+	came := make(chan transport.Message, flood+2)
+	d.messages = came
+	of := func(user, name string) transport.Message {
+		m := message(0, 0, name, ". hello\n")
+		m.Mailbox = wire.VoterBox("test", 0, user)
+		return m
+	}
+	for i := 0; i < flood; i++ {
+		came <- of("web", fmt.Sprintf("made-up-%024d", i))
+	}
+	came <- of("jobs", "newcomer")
+	d.Take(Nobody, transport.Message{})
+	if d.out["jobs.newcomer"] == nil {
+		t.Error("a newcomer of another user is not answered in the first turn")
+	}
+	d.out, d.outBytes = map[string][]byte{}, 0 // all was sent
+	came <- of("bob", "another")
+	if d.Take(Nobody, transport.Message{}); d.out["bob.another"] == nil {
+		t.Error("a newcomer of a third user is not answered in the next turn")
+	}
+	counts := map[string]uint64{}
+	if d.noRoom.AddTo(counts); counts["web"] < flood/5 || len(counts) != 1 || d.inbox.size > mostWaiting {
+		t.Errorf("what is dropped: %v; %d bytes wait", counts, d.inbox.size)
+	}
+}
+
+// BenchmarkNoRoom is what a message costs of who has no number, and whose user's room is used up.
+func BenchmarkNoRoom(b *testing.B) {
+	d := reader()
+	for i := 0; d.noRoom.Load() == 0; i++ {
+		d.sort(message(0, 0, fmt.Sprintf("made-up-%024d", i), ". hello\n"))
+	}
+	m := message(0, 0, fmt.Sprintf("made-up-%024d", 1<<40), ". hello\n")
+	b.ResetTimer()
+	for i := 0; i < b.N; i++ {
+		d.sort(m)
 	}
 }

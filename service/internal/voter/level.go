@@ -41,6 +41,9 @@ func (d *Daemon) raiseLevel(number string, does bool) interface{} {
 	return Levelled{d.store.own.level(), level.Newest}
 }
 
+// mostOlder is how many sessions a reply names that are too old.
+const mostOlder = 10
+
 // mayLevel returns an error unless this voter and all its sessions may go to a level.
 func (d *Daemon) mayLevel(wanted uint64) error {
 	switch now := d.store.own.level(); {
@@ -52,14 +55,21 @@ func (d *Daemon) mayLevel(wanted uint64) error {
 		return fmt.Errorf("this program knows levels up to %d: install a newer one first", level.Newest)
 	}
 	var older []string
+	count := 0
 	for _, s := range d.inTurn {
 		s.seats.each(func(number int, seat *seat) {
-			if seat.marks.has(isOpen) && uint64(seat.level) < wanted && !s.isDead(number) {
+			if !seat.marks.has(isOpen) || uint64(seat.level) >= wanted || s.isDead(number) {
+				return
+			}
+			if count++; count <= mostOlder {
 				older = append(older, d.cluster.NumberOf(s.key(number)))
 			}
 		})
 	}
-	if len(older) > 0 {
+	switch {
+	case count > mostOlder:
+		return fmt.Errorf("%d sessions of older programs, or not heard yet: %v and others", count, older)
+	case count > 0:
 		return fmt.Errorf("sessions of older programs, or not heard yet: %v", older)
 	}
 	return nil

@@ -5,7 +5,6 @@ import (
 	"errors"
 	"io"
 	"testing"
-	"time"
 
 	"calvundek.example/service/internal/event"
 	"calvundek.example/service/internal/level"
@@ -38,7 +37,7 @@ func TestLevels(t *testing.T) {
 		t.Errorf("another voter is at a newer level: %v", err)
 	}
 	d.setLevel(level.Newest + 1)
-	if err := d.save(time.Now()); err != nil {
+	if err := d.save(); err != nil {
 		t.Fatal(err)
 	}
 	own, cluster := d.own, d.cluster
@@ -77,7 +76,7 @@ func TestFormatFollowsTheLevel(t *testing.T) {
 		t.Fatalf("format %d, %+v", before, d.store.own)
 	}
 	d.setLevel(level.Greets)
-	if err := d.save(time.Now()); err != nil {
+	if err := d.save(); err != nil {
 		t.Fatal(err)
 	}
 	if after, is := formatIn(t, d); after != raisedFormat || is != was+1 || d.store.meta.Format != raisedFormat {

@@ -35,7 +35,7 @@ func BenchmarkLine(b *testing.B) {
 		b.Run(way.name, func(b *testing.B) {
 			now := time.Unix(1000, 0)
 			d := &Daemon{cluster: &config.Cluster{}, own: &config.Voter{MaxLocks: 10}, store: &store{}, ceiling: qlock.MaxStamp, m: newMetrics(), votes: map[string]*vote{},
-				users: map[string]*usage{}, dirty: map[*vote]struct{}{}, silent: map[*vote]struct{}{}, out: map[string][]byte{},
+				users: map[string]*usage{}, out: map[string][]byte{},
 				leases: leasesAt(now)}
 			voter, err := qlock.NewVoter(0, qlock.MaxStamp)
 			if err != nil {

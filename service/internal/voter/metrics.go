@@ -10,6 +10,7 @@ import (
 
 	"calvundek.example/service/internal/moment"
 	"calvundek.example/service/qlock"
+	"calvundek.example/service/transport"
 	"github.com/prometheus/client_golang/prometheus"
 	"github.com/prometheus/client_golang/prometheus/collectors"
 	"github.com/prometheus/client_golang/prometheus/promhttp"
@@ -134,8 +135,36 @@ func (d *Daemon) watch() {
 		}
 		return float64(count)
 	})
+	byUser := dropsByUser{&d.noRoom}
+	if counts, is := link.(interface{ Drops() *transport.Drops }); is {
+		byUser = append(byUser, counts.Drops())
+	}
+	d.m.registry.MustRegister(byUser)
 	d.m.read("queue_messages", "Messages that wait.",
 		func() float64 { return float64(int(d.waits.Load()) + link.Waiting()) })
+}
+
+// dropsByUser are the messages that found no room, by whose they were.
+type dropsByUser []*transport.Drops
+
+var droppedOfUser = desc("user_messages_dropped_total", "Messages of a user for which there was no room.", "user")
+
+func desc(name, help string, labels ...string) *prometheus.Desc {
+	return prometheus.NewDesc("qlock_voter_"+name, help, labels, nil)
+}
+
+// Describe says what Collect shows.
+func (dropsByUser) Describe(into chan<- *prometheus.Desc) { into <- droppedOfUser }
+
+// Collect shows the users of which messages were dropped.
+func (d dropsByUser) Collect(into chan<- prometheus.Metric) {
+	counts := map[string]uint64{}
+	for _, one := range d {
+		one.AddTo(counts)
+	}
+	for user, count := range counts {
+		into <- prometheus.MustNewConstMetric(droppedOfUser, prometheus.CounterValue, float64(count), user)
+	}
 }
 
 // length returns how many bytes a file has, 0 if it can't be told.

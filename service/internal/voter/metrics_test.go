@@ -53,11 +53,13 @@ func TestNumbersOfAVoter(t *testing.T) {
 	for i := 0; i < 3; i++ {
 		_ = port.Send("qlock.test.v.0.-", []byte("x"))
 	}
-	d.noRoom.Add(2)
+	d.noRoom.Add("web")
+	d.noRoom.Add("web")
 	d.m.unsent.Add(2)
 	page := httptest.NewRecorder()
 	d.Handler().ServeHTTP(page, httptest.NewRequest("GET", "/metrics", nil))
-	for _, line := range []string{"qlock_voter_queue_messages 3", "qlock_voter_messages_dropped_total 2", "qlock_voter_messages_unsent_total 7",
+	for _, line := range []string{"qlock_voter_queue_messages 3", "qlock_voter_messages_dropped_total 2", `qlock_voter_user_messages_dropped_total{user="web"} 2`,
+		"qlock_voter_messages_unsent_total 7",
 		"qlock_voter_locks_most 77", "qlock_voter_user_locks_most 7", "qlock_voter_user_locks 0", "qlock_voter_numbers_free 64",
 		"qlock_voter_plan 0", "qlock_voter_file_bytes ", "qlock_voter_build_info{", "go_goroutines ",
 		"process_open_fds ", "qlock_voter_certificate_end_timestamp_seconds 1.9e+09",

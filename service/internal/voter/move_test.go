@@ -6,6 +6,7 @@ import (
 	"time"
 
 	"calvundek.example/service/internal/bus"
+	"calvundek.example/service/internal/voter/outbox"
 	"calvundek.example/service/internal/wire"
 	"calvundek.example/service/transport"
 )
@@ -23,7 +24,7 @@ func (m *moving) Move(age time.Duration) { m.ages = append(m.ages, age) }
 func TestVoterThatHearsNobodyMoves(t *testing.T) {
 	port := &moving{Port: bus.New(1).Port()}
 	d := pair(t)
-	d.carrier = port
+	d.sender = outbox.NewSender(port)
 	h := wire.Header{Cluster: d.cluster.ID, Coterie: d.mark, Kind: wire.FromVoter, Number: 1, Start: 1, Name: identity("one")}
 	text := fmt.Sprintf("{\"word\":\"ended\",\"voter\":%q,\"ttl\":%q}\n", d.inUse[0].Names[1], d.cluster.TTL.String())
 	now, most := time.Now(), 2*(d.cluster.TTL.Duration+tellAgain)

@@ -41,10 +41,10 @@ func TestNameOfASessionIsSecret(t *testing.T) {
 		t.Fatal(err)
 	}
 	seen := map[string][]byte{"another voter": letter}
-	for _, question := range []string{"status", "knows"} {
-		seen[question] = written(d.obey([]string{question}, "alice", time.Now()))
+	for _, question := range []string{"sessions 0", "knows"} {
+		seen[question] = written(d.obey(strings.Fields(question), "alice", time.Now()))
 	}
-	if err := d.save(time.Now()); err != nil {
+	if err := d.save(); err != nil {
 		t.Fatal(err)
 	}
 	if seen["the file"], err = os.ReadFile(file(d.own.Data)); err != nil {
@@ -74,8 +74,7 @@ func TestLinesSayTheLapsesOfThen(t *testing.T) {
 		t.Fatalf("it is told %q", said)
 	}
 	d.out["jobs.session-1"] = []byte(said) // it did not leave yet
-	carrier := d.carrier.(*post)
-	carrier.sent = nil
+	carrier := d.posts()
 	later := time.Now().Add(time.Minute)
 	passes(&d.shard(0).table, later)
 	if !d.expire(d.votes["orders"], later) {
@@ -101,7 +100,7 @@ func TestWhoWasNotHeardSinceTheStart(t *testing.T) {
 	first.repliesTo("jobs", 1, ". claim 1 1 100\n")
 	first.repliesTo("jobs", 1, "orders request 1 0 5\n")
 	first.shard(0).lapse(1)
-	if err := first.save(time.Now()); err != nil {
+	if err := first.save(); err != nil {
 		t.Fatal(err)
 	}
 	d := reopened(t, first)
@@ -132,7 +131,7 @@ func TestRowsWithNames(t *testing.T) {
 	if d.shard(0).judge(1, "jobs.session-1", 1) != qlock.SessionKnown {
 		t.Errorf("the session is not known: %+v", d.shard(0).row(1))
 	}
-	if err := d.save(time.Now()); err != nil {
+	if err := d.save(); err != nil {
 		t.Fatal(err)
 	}
 	if err := d.store.disk.View(func(rows Rows) error {

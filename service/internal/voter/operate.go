@@ -1,6 +1,7 @@
 package voter
 
 import (
+	"crypto/sha256"
 	"encoding/json"
 	"fmt"
 	"math"
@@ -14,20 +15,15 @@ import (
 	"calvundek.example/service/transport"
 )
 
-// mostShown is how many votes one reply shows, of those that somebody has or waits for.
-const mostShown = 1000
-
 // mostDone is how many replies are kept to what operators let go.
 const mostDone = 64
-
-// mostReply is how long a reply may be: less than what NATS takes.
-const mostReply = 900 << 10
 
 // Status is what an operator sees of a voter.
 type Status struct {
 	Meta
 	Locks   int     `json:"locks"`
 	Busy    int     `json:"busy"`                    // votes that somebody has or waits for
+	Open    int     `json:"open"`                    // sessions
 	Granted uint64  `json:"granted"`                 // grants given since the start
 	Saves   uint64  `json:"saves"`                   // how often the state was saved
 	Start   uint64  `json:"start"`                   // how often the voter started
@@ -38,9 +34,12 @@ type Status struct {
 	Quiet   float64 `json:"quiet_seconds,omitempty"` // for which only those inside get a vote
 	Runs    float64 `json:"runs_seconds"`
 	Planned
+}
+
+// Lists are what the pages of `sessions` and `votes` have.
+type Lists struct {
 	Sessions []SessionView `json:"sessions"`
 	Votes    []VoteView    `json:"votes"`
-	Dropped  int           `json:"dropped,omitempty"` // votes for which the reply has no room
 }
 
 // SessionView is what an operator sees of an open session. Its name is a secret, so its user and a hash of it are shown.
@@ -90,17 +89,8 @@ type Refused struct {
 
 // answer is a reply to an operator, and the mark of the plan by which he asked.
 type answer struct {
-	mark   string
-	body   []byte
-	status *Status // in place of the body: it may be long, so it is written outside of the loop
-}
-
-// text returns the reply as JSON.
-func (a answer) text() []byte {
-	if a.status != nil {
-		return written(*a.status)
-	}
-	return a.body
+	mark string
+	body []byte
 }
 
 // operate does what an operator asks, and replies after the save. Unless he may write, he only reads.
@@ -111,58 +101,63 @@ func (d *Daemon) operate(m transport.Message, mayWrite bool, now time.Time) {
 		d.m.foreign.Inc()
 		return
 	}
-	name := wire.SessionName(by, h.Name)
-	question, box := name+" "+string(lines), wire.ReplyBox(d.cluster.ID, name, d.store.meta.Voter)
-	reply, isDone := d.done[question]
-	if !isDone {
-		words := strings.Fields(string(lines))
-		made := interface{}(Refused{"only who may write may ask this"})
-		if mayWrite || wire.IsRead(by, strings.Join(words, " ")) {
-			made = d.obey(words, by, now)
-		}
-		if status, is := made.(Status); is {
-			d.replies[box] = answer{mark: h.Coterie, status: &status}
-			return
-		}
-		reply = written(made)
-		if len(words) > 0 && (words[0] == "evict" || words[0] == "unlock") {
-			d.noteDone(question, reply)
-		}
+	name, words := wire.SessionName(by, h.Name), strings.Fields(string(lines))
+	reply := written(Refused{"only who may write may ask this"})
+	switch {
+	case mayWrite && len(words) > 0 && (words[0] == "evict" || words[0] == "unlock"):
+		reply = d.done.reply(name+" "+string(lines), func() []byte { return written(d.obey(words, by, now)) })
+	case mayWrite || wire.IsRead(by, strings.Join(words, " ")):
+		reply = written(d.obey(words, by, now))
 	}
-	d.replies[box] = answer{mark: h.Coterie, body: reply}
+	d.replies[wire.ReplyBox(d.cluster.ID, name, d.store.meta.Voter)] = answer{h.Coterie, reply}
 }
 
-// noteDone keeps the reply to a question, which has a name of its own, so that one that comes again lets nothing else go.
-func (d *Daemon) noteDone(question string, reply []byte) {
-	if len(d.done) >= mostDone {
-		d.done = map[string][]byte{}
-	}
-	d.done[question] = reply
+// done are the replies to what operators let go last, the oldest first.
+type done []struct {
+	question [sha256.Size]byte
+	reply    []byte
 }
 
-// written returns a reply as JSON. A status that is too long for one message shows fewer votes.
+// reply returns the reply to a question, which has a name of its own. One that comes again lets nothing else go.
+func (d *done) reply(question string, obey func() []byte) []byte {
+	asked := sha256.Sum256([]byte(question))
+	for _, one := range *d {
+		if one.question == asked {
+			return one.reply
+		}
+	}
+	if len(*d) >= mostDone {
+		*d = append(done{}, (*d)[1:]...)
+	}
+	*d = append(*d, struct {
+		question [sha256.Size]byte
+		reply    []byte
+	}{asked, obey()})
+	return (*d)[len(*d)-1].reply
+}
+
+// written returns a reply as JSON. A page is that already.
 func written(reply interface{}) []byte {
-	for {
-		text, err := json.Marshal(reply)
-		if err != nil {
-			return []byte(`{"error":"no reply can be written"}`)
-		}
-		s, is := reply.(Status)
-		if len(text) <= mostReply || !is || len(s.Votes) == 0 {
-			return text
-		}
-		fewer := len(s.Votes) / 2
-		s.Dropped, s.Votes = s.Dropped+len(s.Votes)-fewer, s.Votes[:fewer]
-		reply = s
+	if text, isPage := reply.(page); isPage {
+		return text
 	}
+	text, err := json.Marshal(reply)
+	if err != nil {
+		return []byte(`{"error":"no reply can be written"}`)
+	}
+	return text
 }
 
-// obey does what these words say: `status`, `lock LOCK`, `knows`, `evict NUMBER`, `evict NUMBER now`, `unlock LOCK GRANT`, or what exchange
-// obeys.
+// obey does what these words say: `status`, `sessions FROM`, `votes FROM`, `lock LOCK`, `knows`, `evict NUMBER`, `evict NUMBER now`,
+// `unlock LOCK GRANT`, or what exchange obeys.
 func (d *Daemon) obey(words []string, by string, now time.Time) interface{} {
 	switch {
 	case len(words) == 1 && words[0] == "status":
 		return d.status(now)
+	case len(words) == 2 && words[0] == "sessions":
+		return d.pageOfSessions(wire.Number([]byte(words[1])))
+	case len(words) == 2 && words[0] == "votes":
+		return d.pageOfVotes(wire.Number([]byte(words[1])), now)
 	case len(words) > 0 && words[0] == "knows" && d.isLost():
 		return Refused{"the voter lost its state, and waits for what other voters know"}
 	case len(words) == 1 && words[0] == "knows":
@@ -234,49 +229,22 @@ func (d *Daemon) status(now time.Time) Status {
 	s := Status{Meta: d.store.meta, Locks: len(d.votes), Busy: len(d.busy.all), Granted: d.granted, Saves: d.store.saves,
 		Start: d.store.own.Start, Ceiling: d.ceiling, Level: d.store.own.level(), Serves: d.join.done,
 		Awaits: d.awaitsVoters(now), Quiet: d.quietLeft(now).Seconds(), Runs: now.Sub(d.started).Seconds(),
-		Planned: Planned{d.plans.Number, d.plans.oldest(), d.plans.Settled}, Sessions: []SessionView{}, Votes: []VoteView{}}
+		Planned: Planned{d.plans.Number, d.plans.oldest(), d.plans.Settled}}
 	for _, one := range d.inTurn {
-		s.Sessions = append(s.Sessions, one.views(d.cluster.NumberOf)...)
+		for _, seat := range one.seats.all {
+			if seat.marks.has(isOpen) {
+				s.Open++
+			}
+		}
 	}
-	sort.SliceStable(s.Sessions, func(i, j int) bool { return s.Sessions[i].Shard < s.Sessions[j].Shard })
-	for _, v := range firstByName(d.busy.all, mostShown) {
-		s.Votes = append(s.Votes, d.view(v, now))
-	}
-	s.Dropped = len(d.busy.all) - len(s.Votes)
 	return s
 }
 
-// firstByName returns the first votes by their names, so many at most. It does not sort all of them, as there may be many.
-func firstByName(all []*vote, most int) (first []*vote) {
-	last := "" // of those that are the first ones so far, once there are enough
-	shorten := func() {
-		sort.Slice(first, func(i, j int) bool { return first[i].name < first[j].name })
-		if len(first) >= most {
-			first = first[:most]
-			last = first[most-1].name
-		}
-	}
-	for _, v := range all {
-		if last != "" && v.name >= last {
-			continue
-		}
-		if first = append(first, v); len(first) == 2*most {
-			shorten()
-		}
-	}
-	shorten()
-	return first
-}
-
-// views returns what an operator sees of the sessions of a shard. One that was heard after the last marker was silent for no time.
-func (s *shard) views(called func(key int) string) (views []SessionView) {
-	s.seats.each(func(number int, seat *seat) {
-		if seat.marks.has(isOpen) {
-			views = append(views, SessionView{called(s.key(number)), s.table.number, number, seat.epoch, seat.reserved, s.hash(number),
-				math.Max(0, s.silent(number).Seconds()), int(seat.requests), s.noteOf(number)})
-		}
-	})
-	return views
+// viewOf returns what an operator sees of the session that has a number. One that was heard after the last marker was silent for no time.
+func (d *Daemon) viewOf(s *shard, number int) SessionView {
+	seat := s.seat(number)
+	return SessionView{d.cluster.NumberOf(s.key(number)), s.table.number, number, seat.epoch, seat.reserved, s.hash(number),
+		math.Max(0, s.silent(number).Seconds()), int(seat.requests), s.noteOf(number)}
 }
 
 // view returns what an operator sees of a vote.

@@ -82,7 +82,7 @@ func ended(t *testing.T, ago time.Duration) *Daemon {
 	d := made(t, threeOfFour)
 	d.store.own.Ceiling = firstCeiling
 	if d.newOwn = true; ago == 0 {
-		if err := d.save(d.now()); err != nil {
+		if err := d.save(); err != nil {
 			t.Fatal(err)
 		}
 	} else {

@@ -19,6 +19,7 @@ import (
 
 // starter is a voter that a test starts again and again, at times of its own.
 type starter struct {
+	mail *post // where all is put that leaves
 	*Daemon
 	now     time.Time
 	isEager bool // all its votes go on above the floor as it starts
@@ -57,7 +58,8 @@ func (s *starter) opens(t *testing.T, own *config.Voter, cluster *config.Cluster
 	t.Helper()
 	around := Surroundings{Now: func() time.Time { return s.now }, Random: rand.New(rand.NewSource(seed)), Block: 8}
 	var err error
-	if s.Daemon, err = OpenIn(around, own, cluster, &post{}, event.To(io.Discard)); err != nil {
+	s.mail = &post{}
+	if s.Daemon, err = OpenIn(around, own, cluster, s.mail, event.To(io.Discard)); err != nil {
 		t.Fatal(err)
 	}
 	if s.start(s.now); !s.join.done {
@@ -153,10 +155,9 @@ func (s *starter) shows(t *testing.T) map[string]interface{} {
 		out[session] = string(lines)
 	}
 	shown := map[string]interface{}{"out": out, "floor": s.floor, "ceiling": s.ceiling, "reach": s.reach, "most": s.m.most, "turns": len(s.skips),
-		"old": len(s.old.all), "rows": s.rows(t), "sent": s.carrier.(*post).sent}
+		"old": len(s.old.all), "rows": s.rows(t), "sent": s.mail.sent}
 	for name, v := range s.votes {
-		_, isDirty := s.dirty[v]
-		_, isSilent := s.silent[v]
+		isDirty, isSilent := s.draft.Has(v)
 		shown[name] = []interface{}{v.held(), s.highestOf(v), s.view(v, s.now), v.isOld, v.isAwaited(), isDirty, isSilent, s.goesOn(v)}
 	}
 	return shown
@@ -204,7 +205,7 @@ func (s *starter) unraised() (count int) {
 func TestRaisedVotesAreSaved(t *testing.T) {
 	d, _ := alone(t, 100)
 	holds(t, d, 1, "lock", 2, time.Now())
-	if err := d.save(time.Now()); err != nil {
+	if err := d.save(); err != nil {
 		t.Fatal(err)
 	}
 	again, now := reopened(t, d), time.Now()
@@ -213,7 +214,7 @@ func TestRaisedVotesAreSaved(t *testing.T) {
 	for i := 0; i < 2; i++ {
 		v := again.votes[fmt.Sprintf("lock-%06d", i)]
 		says(again, v, 1, fmt.Sprintf("request 1 0 %d", i+1), now)
-		if err := again.save(now); err != nil {
+		if err := again.save(); err != nil {
 			t.Fatal(err)
 		}
 		var saved *qlock.Voter

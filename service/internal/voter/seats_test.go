@@ -16,6 +16,7 @@ import (
 	"calvundek.example/service/internal/config"
 	"calvundek.example/service/internal/event"
 	"calvundek.example/service/internal/level"
+	"calvundek.example/service/internal/voter/outbox"
 	"calvundek.example/service/internal/wire"
 	"calvundek.example/service/qlock"
 	"calvundek.example/service/transport"
@@ -32,7 +33,7 @@ const (
 // settles takes out what is to leave, and what is to be saved.
 func (d *Daemon) settles() {
 	d.leases.saved()
-	d.out, d.outBytes, d.dirty, d.silent = map[string][]byte{}, 0, map[*vote]struct{}{}, map[*vote]struct{}{}
+	d.out, d.outBytes, d.draft = map[string][]byte{}, 0, outbox.Draft[*vote]{}
 }
 
 // ofShard says something in the place of a session of a shard with names as long as real ones.
@@ -307,8 +308,8 @@ func (*nowhere) Send(string, []byte) error { return nil }
 // measured returns a voter that serves, and saves nothing.
 func measured(now time.Time, shards int) *Daemon {
 	d := &Daemon{cluster: &config.Cluster{ID: "test", Shards: shards}, own: &config.Voter{MaxLocks: 10}, store: &store{}, ceiling: qlock.MaxStamp,
-		m: newMetrics(), votes: map[string]*vote{}, users: map[string]*usage{}, dirty: map[*vote]struct{}{}, silent: map[*vote]struct{}{},
-		out: map[string][]byte{}, leases: leasesAt(now), carrier: &nowhere{}, log: event.To(io.Discard), mark: "m", join: joining{done: true}, gone: map[string]struct{}{}}
+		m: newMetrics(), votes: map[string]*vote{}, users: map[string]*usage{},
+		out: map[string][]byte{}, leases: leasesAt(now), sender: outbox.NewSender(&nowhere{}), log: event.To(io.Discard), mark: "m", join: joining{done: true}, gone: map[string]struct{}{}}
 	d.store.meta.Cluster, d.store.meta.Identity, d.store.own.Start = "test", identity("a"), 1
 	return d
 }
@@ -332,12 +333,7 @@ func BenchmarkTurn(b *testing.B) {
 					b.Fatalf("%d: %q", i, d.out)
 				}
 				d.deliver()
-				for v := range d.dirty {
-					delete(d.dirty, v)
-				}
-				for v := range d.silent {
-					delete(d.silent, v)
-				}
+				d.draft = outbox.Draft[*vote]{}
 			}
 		})
 	}

@@ -91,7 +91,7 @@ func TestRowsOfShardsAreSaved(t *testing.T) {
 	for _, shard := range []int{0, 1, 255, 256, 4095} {
 		says(shard, 60+shard%4, fmt.Sprintf(". claim %d 1 %d\n", 60+shard%4, 100+shard%7))
 	}
-	if err := d.save(time.Now()); err != nil {
+	if err := d.save(); err != nil {
 		t.Fatal(err)
 	}
 	again := reopened(t, d)

@@ -90,7 +90,9 @@ func TestWhoMayWrite(t *testing.T) {
 		mayWrite  bool
 		want      string
 	}{
-		{"bob", "status", false, `"sessions":[{"session":"2"`},
+		{"bob", "status", false, `"open":1`},
+		{"bob", "sessions 0", false, `"sessions":[{"session":"2"`},
+		{"bob", "votes 0", false, `"votes":[]`},
 		{"bob", "lock x", false, `"lock":"x"`},
 		{"bob", "evict 2", false, `"error"`},
 		{"bob", "status evict 2", false, `"error"`},
@@ -107,14 +109,14 @@ func TestWhoMayWrite(t *testing.T) {
 		{"alice", "evict 3", true, `{"let_go":0,"nobody":true}`},
 	} {
 		d := reader()
-		d.replies, d.done, d.log = map[string]answer{}, map[string][]byte{}, event.To(&log)
+		d.replies, d.log = map[string]answer{}, event.To(&log)
 		d.shard(0).claim(2, "jobs.s2", 1, 0, time.Now())
 		h := wire.Header{Cluster: "test", Coterie: "mark", Kind: wire.FromOperator, Name: "q"}
 		box := wire.ReadBox("test", 0, one.by)
 		d.operate(transport.Message{Mailbox: box, Data: append(h.Append(nil), one.words+"\n"...)}, one.mayWrite, time.Now())
 		reply, is := d.replies[wire.ReplyBox("test", one.by+".q", 0)]
-		if is != (one.want != "") || is && !strings.Contains(string(reply.text()), one.want) {
-			t.Errorf("%s asks %s: %q", one.by, one.words, reply.text())
+		if is != (one.want != "") || is && !strings.Contains(string(reply.body), one.want) {
+			t.Errorf("%s asks %s: %q", one.by, one.words, reply.body)
 		}
 		if d.shard(0).row(2).Open == (one.by == "alice" && (one.words == "evict 2" || one.words == "evict 2 now")) {
 			t.Errorf("%s asks %s: %+v", one.by, one.words, d.shard(0).row(2))

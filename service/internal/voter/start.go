@@ -220,7 +220,7 @@ type posted struct {
 	word  word
 }
 
-// deliverLetters sends what leaves to other voters.
+// deliverLetters makes messages of the words to other voters.
 func (d *Daemon) deliverLetters() {
 	header := d.header()
 	for _, one := range d.letters {

@@ -321,7 +321,7 @@ func TestEndOfTheQuietTime(t *testing.T) {
 		first.repliesTo("jobs", number, fmt.Sprintf(". claim %d 1 100\n", number))
 	}
 	first.repliesTo("jobs", 1, "left request 1 0 1\ngiven request 1 0 2\nfree request 1 0 3\nfree release 1 0 3\n")
-	if err := first.save(time.Now()); err != nil {
+	if err := first.save(); err != nil {
 		t.Fatal(err)
 	}
 	d := reopened(t, first)
@@ -415,7 +415,7 @@ func TestWhatComesBackWhileQuiet(t *testing.T) {
 	}
 	first.repliesTo("jobs", 1, "orders request 1 0 9\n")
 	grant := first.votes["orders"].held().Number
-	if err := first.save(time.Now()); err != nil {
+	if err := first.save(); err != nil {
 		t.Fatal(err)
 	}
 	d := reopened(t, first)
@@ -440,7 +440,7 @@ func TestEndWhileQuiet(t *testing.T) {
 		if isQuiet {
 			d.beQuiet(time.Now())
 		}
-		carrier := d.carrier.(*post)
+		carrier := d.posts()
 		carrier.sent = nil
 		if err := d.End(); err != nil {
 			t.Fatal(err)
@@ -472,7 +472,7 @@ func TestEndWhileSomebodyInsideWaits(t *testing.T) {
 	if d.round(time.Now()); d.isQuiet() || !d.votes["orders"].isAwaited() {
 		t.Fatalf("quiet %v, %+v", d.isQuiet(), d.votes["orders"])
 	}
-	carrier := d.carrier.(*post)
+	carrier := d.posts()
 	carrier.sent = nil
 	if err := d.End(); err != nil {
 		t.Fatal(err)
@@ -544,7 +544,7 @@ func whatOthersEnd(t *testing.T, end func(d *Daemon, now time.Time) error) {
 		}
 	}
 	stays("at once")
-	if err := d.save(now); err != nil {
+	if err := d.save(); err != nil {
 		t.Fatal(err)
 	}
 	d = reopened(t, d)

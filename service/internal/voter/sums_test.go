@@ -168,7 +168,7 @@ func TestSumsAreMadeBeforeSomebodyAsks(t *testing.T) {
 			s.put(number, s.row(number))
 		}
 	}
-	if err := d.save(time.Now()); err != nil {
+	if err := d.save(); err != nil {
 		t.Fatal(err)
 	}
 	if again := reopened(t, d); len(again.inTurn) != shards || unsummed(again) > 0 {

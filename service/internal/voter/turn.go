@@ -91,8 +91,7 @@ func (d *Daemon) skipFor(l *letter, ask wire.Ask, now time.Time) {
 		v.extras.skipped = ask.Top
 		d.noteNumber(ask.Top, now)
 	}
-	d.dirty[v] = struct{}{}
-	delete(d.silent, v)
+	d.draft.Must(v)
 	v.isRaised = false
 	d.skips = append(d.skips, skip{v, l.Name, ask})
 }

@@ -65,7 +65,7 @@ func TestLocksOfAUser(t *testing.T) {
 	if d.measure(time.Now()); testutil.ToFloat64(d.m.userLocks) != 3 {
 		t.Errorf("the user with most has %v", testutil.ToFloat64(d.m.userLocks))
 	}
-	if err := d.save(time.Now()); err != nil {
+	if err := d.save(); err != nil {
 		t.Fatal(err)
 	}
 	d.store.disk.Close()

@@ -12,7 +12,7 @@ func TestShownSilence(t *testing.T) {
 	for ahead, want := range map[time.Duration]float64{time.Second: 0, 0: 0, -2 * time.Second: 2} {
 		reading, _ := d.leases.clock.Shows()
 		d.shard(0).seat(1).heard = reading + ahead
-		if views := d.status(time.Now()).Sessions; len(views) != 2 || views[1].Silent != want {
+		if views := allOf(t, d).Sessions; len(views) != 2 || views[1].Silent != want {
 			t.Errorf("heard %v after the reading: %+v", ahead, views)
 		}
 	}

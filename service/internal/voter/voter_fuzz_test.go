@@ -78,7 +78,7 @@ func newStage(f *testing.F) *stage {
 // markOf returns the mark in what a voter sends.
 func markOf(f *testing.F, d *Daemon) string {
 	f.Helper()
-	link := d.carrier.(*post)
+	link := d.posts()
 	d.tell("anybody", "hello")
 	d.deliver()
 	h, _, err := wire.Read(link.sent[len(link.sent)-1])
@@ -222,7 +222,7 @@ func FuzzMessage(f *testing.F) {
 		}
 		h, _, err := wire.Read(message)
 		ours := err == nil && h.Cluster == "test" && h.Coterie == s.mark && h.Kind == wire.FromClient
-		if !ours && (d.shard(0).all() != rows || len(d.votes) != 1 || len(d.dirty)+len(d.leases.changed) > 0) {
+		if !ours && (d.shard(0).all() != rows || len(d.votes) != 1 || d.changed()+len(d.leases.changed) > 0) {
 			t.Fatalf("a foreign message changes %v", d.leases.changed)
 		}
 		for number, row := range d.shard(0).all() {
@@ -369,7 +369,7 @@ var orders = map[string]bool{"evict": true, "unlock": true, "exchange": true, "r
 func FuzzOperator(f *testing.F) {
 	s := newStage(f)
 	plan := "0 " + config.Mark(0, s.cluster.Coterie)
-	for _, words := range []string{"status", "knows", "lock orders", "lock x y", "evict 0", "evict 0 now", "evict 64",
+	for _, words := range []string{"status", "sessions 0", "sessions 70", "votes 0", "votes 1", "votes x", "knows", "lock orders", "lock x y", "evict 0", "evict 0 now", "evict 64",
 		"unlock orders 1", "unlock orders 2", "ready " + plan, "retire " + plan, "retire 1 " + plan[2:],
 		"settle " + plan + " {\"sessions\":{\"3\":{\"name\":\"x\",\"epoch\":9,\"base\":1,\"reserved\":7,\"open\":true}}}",
 		"inform " + plan + " {\"sessions\":{\"3\":{\"name\":\"x\",\"epoch\":9,\"base\":1,\"reserved\":7,\"open\":true}}}",
@@ -382,7 +382,7 @@ func FuzzOperator(f *testing.F) {
 		h := wire.Header{Cluster: "test", Coterie: s.mark, Kind: wire.FromOperator, Name: "0123"}
 		replies := order(d, append(h.Append(nil), lines...))
 		reply, one := replies[wire.ReplyBox("test", "alice.0123", 0)]
-		if text := reply.text(); len(replies) != 1 || !one || !json.Valid(text) || len(text) > mostReply {
+		if text := reply.body; len(replies) != 1 || !one || !json.Valid(text) || len(text) > 900<<10 {
 			t.Fatalf("%q: %d replies: %q", lines, len(replies), text)
 		}
 		words := append(strings.Fields(lines), "")
@@ -396,8 +396,8 @@ func FuzzOperator(f *testing.F) {
 		if words[0] == "evict" || words[0] == "unlock" {
 			rows := d.shard(0).all()
 			twice := order(d, append(h.Append(nil), lines...))[wire.ReplyBox("test", "alice.0123", 0)]
-			if !bytes.Equal(twice.text(), reply.text()) || d.shard(0).all() != rows {
-				t.Fatalf("%q is done twice: %q, then %q", lines, reply.text(), twice.text())
+			if !bytes.Equal(twice.body, reply.body) || d.shard(0).all() != rows {
+				t.Fatalf("%q is done twice: %q, then %q", lines, reply.body, twice.body)
 			}
 		}
 	})

@@ -215,7 +215,7 @@ func TestWantIsTakenBack(t *testing.T) {
 		t.Errorf("who has number 50 by a claim has %d, %d", number, epoch)
 	}
 	number, _ = broughtBy(says("old", 0, 0, 1, wants))
-	if err := d.save(time.Now()); err != nil {
+	if err := d.save(); err != nil {
 		t.Fatal(err)
 	}
 	d = reopened(t, d)

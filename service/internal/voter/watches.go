@@ -90,7 +90,7 @@ func (d *Daemon) tellWatcher(w *watching, now time.Time) {
 	}
 	w.heard = told
 	if v := d.votes[w.lock]; v != nil {
-		d.mustSave(v)
+		d.draft.Tells(v)
 	}
 	d.put(w.session, told.Append(d.out[w.session]))
 }

@@ -131,7 +131,7 @@ func TestWatcherHearsWhatIsSaved(t *testing.T) {
 		if d.tellWatchers(time.Now()); len(d.out["web.looker"]) == 0 {
 			t.Fatalf("%q: nothing is said", line)
 		}
-		if _, isSilent := d.silent[v]; isSilent {
+		if _, may := d.draft.Has(v); may {
 			t.Errorf("%q: it leaves before it is saved", line)
 		}
 		saves := d.store.saves

@@ -299,7 +299,7 @@ func IsVoter(word string) bool {
 // IsRead returns whether what is asked changes nothing, and shows nothing of sessions that only voters need.
 func IsRead(from, words string) bool {
 	switch word, _, _ := strings.Cut(words, " "); word {
-	case "status", "lock":
+	case "status", "sessions", "votes", "lock":
 		return true
 	case "knows":
 		return IsVoter(from)
