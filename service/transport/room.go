@@ -19,8 +19,8 @@ func weight(m Message) int {
 // ofOne is how many times as much of it a sender may have as is free.
 const ofOne = 3
 
-// room has what came to a mailbox, and is not handed out yet, in its order. One sender leaves some of it free, so there is always some for those
-// who send little.
+// room has what came to a mailbox, and is not handed out yet, in its order. One sender leaves some of it free, so there is always some for
+// those who send little.
 type room struct {
 	mutex   sync.Mutex
 	waiting []Message

@@ -61,7 +61,7 @@ func TestDropsBySender(t *testing.T) {
 // What waits never takes more than the room of a mailbox, whatever its size.
 func TestRoomIsNotExceeded(t *testing.T) {
 	r := newRoom()
-	for n, size := 0, RoomBytes/2; size > 0; n++ {
+	for n, size := 0, RoomBytes*5/8; size > 0; n++ {
 		if m := (Message{fmt.Sprint("box.", n), make([]byte, size)}); !r.put(m) {
 			size = size * 3 / 4
 		}

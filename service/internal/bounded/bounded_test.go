@@ -46,8 +46,8 @@ func gets(address string) bool {
 
 func numbers(w http.ResponseWriter, _ *http.Request) { _, _ = io.WriteString(w, "numbers") }
 
-// Requests whose body never comes, heads that never end, and idle connections take so many connections at most, and none for long. What is too
-// many ends at once.
+// Requests whose body never comes, heads that never end, and idle connections take so many connections at most, and none for long. What is
+// too many ends at once.
 func TestNobodyTakesConnections(t *testing.T) {
 	var now Connections
 	refused := make(chan struct{}, 1000)

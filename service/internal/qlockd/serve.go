@@ -134,8 +134,8 @@ func (a *Agent) handler() http.Handler {
 	})
 }
 
-// readsFirst reads the body of each request, within a time, and then answers it: a connection's end is seen from then on. Package http would
-// wait for a body that nobody reads before it replies, and a time for whole requests would end a lock that is held.
+// readsFirst reads the body of each request, within a time, and then answers it: a connection's end is seen from then on. Package http
+// would wait for a body that nobody reads before it replies, and a time for whole requests would end a lock that is held.
 func readsFirst(next http.Handler, refuse func(w http.ResponseWriter, err error)) http.Handler {
 	return http.HandlerFunc(func(w http.ResponseWriter, r *http.Request) {
 		limit := func(time.Time) {}

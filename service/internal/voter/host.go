@@ -306,8 +306,8 @@ type sealed struct {
 	lapses  uint64
 }
 
-// deliverTo lets lines leave to a session, with this count of its lapses. What goes to a session of a process that takes bundles waits for the
-// others of this turn.
+// deliverTo lets lines leave to a session, with this count of its lapses. What goes to a session of a process that takes bundles waits for
+// the others of this turn.
 func (d *Daemon) deliverTo(header wire.Header, session string, runs, lines []byte, lapses uint64) {
 	header.Coterie, header.Lapses = d.speaks(session), lapses
 	box, to := wire.SessionBox(header.Cluster, session, header.Number), d.processOf(session)

@@ -64,8 +64,8 @@ func (d *Daemon) pageOfSessions(from int) page {
 	return p.end(next)
 }
 
-// pageOfVotes returns a page of the votes that somebody has or waits for: those before a place, or the first page if that is 0. Who reads all
-// pages sees each vote that stays, and some twice.
+// pageOfVotes returns a page of the votes that somebody has or waits for: those before a place, or the first page if that is 0. Who reads
+// all pages sees each vote that stays, and some twice.
 func (d *Daemon) pageOfVotes(from int, now time.Time) page {
 	p, all := beginPage("votes"), pass{from}
 	if from < 0 || len(d.busy.all) == 0 {

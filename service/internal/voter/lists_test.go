@@ -37,7 +37,8 @@ func allOf(t testing.TB, d *Daemon) (all Lists) {
 	return all
 }
 
-// A status has counts, however many sessions there are. Pages have all sessions, in the order of their numbers, and each has room in a message.
+// A status has counts, however many sessions there are. Pages have all sessions, in the order of their numbers, and each has room in a
+// message.
 func TestPagesOfManySessions(t *testing.T) {
 	const shards, numbers = 256, 40
 	d, _ := sharded(t, shards)
@@ -59,7 +60,8 @@ func TestPagesOfManySessions(t *testing.T) {
 	}
 }
 
-// Who reads the pages of votes sees each that stays, whatever goes meanwhile. A page has room in a message, also if very many wait for each vote.
+// Who reads the pages of votes sees each that stays, whatever goes meanwhile. A page has room in a message, also if very many wait for each
+// vote.
 func TestPagesOfVotes(t *testing.T) {
 	d, now := reader(), time.Unix(1000, 0)
 	d.own, d.votes = &config.Voter{}, map[string]*vote{}
