@@ -49,7 +49,12 @@ func freezing(t *testing.T, shards int) (cluster *config.Cluster, freeze func())
 		t.Fatal(cluster.Check())
 	}
 	serveBy(t, cluster, t.TempDir(), func(int) *transport.NATS { return connect(t, cluster, config.Access{}) })
-	return cluster, func() { _ = run.Process.Signal(syscall.SIGSTOP) }
+	return cluster, func() {
+		_ = run.Process.Signal(syscall.SIGSTOP)
+		if _, err := syscall.Wait4(run.Process.Pid, nil, syscall.WUNTRACED, nil); err != nil { // it stands still then
+			t.Error(err)
+		}
+	}
 }
 
 // Each call ends with its context while all servers take connections and say nothing, and those that have none end at once.
@@ -77,10 +82,13 @@ func endsInTime(t *testing.T, shards int) {
 	freeze()
 	timed := func(what string, limit time.Duration, call func(ctx context.Context)) {
 		ctx, cancel := context.WithTimeout(context.Background(), limit)
-		defer cancel()
-		began := time.Now()
-		if call(ctx); time.Since(began) > limit+most {
-			t.Errorf("%s took %v", what, time.Since(began))
+		over := make(chan time.Time, 1) // when the context ended, as another goroutine saw it
+		go func() { <-ctx.Done(); over <- time.Now() }()
+		call(ctx)
+		ended := time.Now()
+		cancel()
+		if late := ended.Sub(<-over); late > most {
+			t.Errorf("%s ended %v after its context", what, late)
 		}
 	}
 	var group sync.WaitGroup

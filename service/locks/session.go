@@ -795,10 +795,10 @@ func (c *Client) heard(now time.Time) (heard, quiet []uint64) {
 }
 
 // deaf is for how long no quorum of voters is heard until the server of the broker is left: it may live, and reach none of them. Who opens a
-// session has no lock to lose, and tries again and again by new processes.
+// session, or only looks, has no lock to lose, and little time.
 func (c *Client) deaf() time.Duration {
-	if c.opening {
-		return c.cluster.TTL.Duration
+	if c.opening || c.looks && c.shards == nil {
+		return c.cluster.TTL.Duration / 2
 	}
 	return 2 * c.cluster.TTL.Duration
 }

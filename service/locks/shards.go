@@ -61,6 +61,7 @@ type part struct {
 	claims *claims.Numbers // those that it made
 	left   time.Duration   // when the first word under that name left that could bring a number, 0 if none did
 	seq    uint64          // of the last message under that name
+	heard  []time.Time     // when each voter was heard last under that name
 	plan   uint64          // the number of the plan by which it was opened last
 	client *Client         // nil if there is none
 
@@ -130,6 +131,7 @@ func openShards(ctx context.Context, cluster *config.Cluster, c Config) (*Client
 		return nil, err
 	}
 	client.followed, client.looked = time.Now(), firstOf(client.header.Name, len(client.peers))
+	client.opening = true
 	go client.run()
 	greeting := newQuestion(wire.AskWho, "-") // any question does: each reply says which plans there are
 	greeting.isBrief = true
@@ -137,7 +139,7 @@ func openShards(ctx context.Context, cluster *config.Cluster, c Config) (*Client
 		_ = client.Close(ctx)
 		return nil, err
 	}
-	return client, nil
+	return client, client.call(func() error { client.opening = false; return nil })
 }
 
 // beginShards begins to take what comes to the mailbox of the process.
@@ -327,7 +329,7 @@ func (c *Client) adds(p *part, session *Client) bool {
 	if c.whyClosed() != nil {
 		return false
 	}
-	p.name, p.claims, p.left, p.seq = "", nil, 0, 0
+	p.name, p.claims, p.left, p.seq, p.heard = "", nil, 0, 0, nil
 	select {
 	case <-session.stopped: // it is over already
 	default:
@@ -346,7 +348,10 @@ func (c *Client) openPart(ctx context.Context, p *part, shard int, lock string, 
 		return nil, err
 	}
 	if err := session.begin(ctx); err != nil {
-		p.left, p.seq = session.left, session.header.Seq
+		p.left, p.seq, p.heard = session.left, session.header.Seq, nil
+		for v := range session.peers {
+			p.heard = append(p.heard, session.peers[v].heard)
+		}
 		c.shards.leaves(session) // the next try listens again, under the same name
 		return nil, session.explained(err)
 	}
@@ -371,6 +376,9 @@ func (c *Client) newPart(p *part, lock string, tries bool) (*Client, error) {
 	}
 	p.plan = session.generation
 	session.meet(len(session.names()))
+	for v := 0; v < len(p.heard) && v < len(session.peers); v++ {
+		session.peers[v].heard = p.heard[v] // many short calls are as deaf as a long one
+	}
 	return session, nil
 }
 

@@ -384,6 +384,9 @@ func (e explained) Error() string        { return fmt.Sprintf("%v: %v", e.what, 
 func (e explained) Is(target error) bool { return errors.Is(e.why, target) }
 func (e explained) Unwrap() error        { return e.what }
 
+// errSilent is why there is no connection if nothing else is known.
+var errSilent = errors.New("none said a word so far")
+
 // Explain returns an error, with why there is no connection if there is none, or why the server refuses the user: then errors.Is finds
 // ErrRefused, too.
 func (n *NATS) Explain(err error) error {
@@ -396,7 +399,11 @@ func (n *NATS) Explain(err error) error {
 	if n.Connected() {
 		return err
 	}
-	return fmt.Errorf("%w: no server of NATS is there: %v", err, n.Why())
+	why := n.Why()
+	if why == nil {
+		why = errSilent
+	}
+	return fmt.Errorf("%w: no server of NATS is there: %v", err, why)
 }
 
 // Listen returns the messages that come to a mailbox. What finds no room is dropped, and counted: a

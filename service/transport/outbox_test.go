@@ -3,6 +3,8 @@ package transport_test
 import (
 	"errors"
 	"net"
+	"os"
+	"strings"
 	"testing"
 	"time"
 
@@ -55,7 +57,11 @@ func TestNobodyWaitsForServers(t *testing.T) {
 		timed("Send", func() { _ = link.Send("box", []byte("x")) })
 		timed("Connected", func() { link.Connected() })
 		timed("Waiting", func() { link.Waiting(); link.Dropped(); link.Unsent() })
-		timed("Explain", func() { _ = link.Explain(errors.New("why")) })
+		timed("Explain", func() {
+			if why := link.Explain(os.ErrClosed); !errors.Is(why, os.ErrClosed) || strings.Contains(why.Error(), "nil") {
+				t.Error(why)
+			}
+		})
 		timed("Leave", func() { link.Leave("box"); link.Leave("passed") })
 		time.Sleep(5 * time.Millisecond)
 	}
@@ -173,8 +179,9 @@ func TestMove(t *testing.T) {
 		}
 	}
 	until(t, "there are connections", func() bool { return link.Connected() && there.Connected() })
+	link.Move(time.Hour)
 	for i := 0; i < 20; i++ {
-		if link.Move(time.Hour); isThere() {
+		if isThere() {
 			t.Fatal("it left a new connection")
 		}
 	}
