@@ -5,7 +5,8 @@
 `rt ci` proves every crate and its tests, has the prover refuse wrong bodies, and runs tests and
 programs. It takes nearly all of the time. The other checks (CHECKS) run beside it, each once all
 that it needs is there. What ran beside others is printed at the end. The run ends with the first
-check that is found to have failed, and with its status.
+check that is found to have failed, and with its status. Lines of a check that begin with "note:"
+are said once more at the end: what was left out, and what needed a second try.
 """
 import os
 import sys
@@ -34,6 +35,8 @@ CHECKS = (
 )
 # How many seconds pass between two looks at what has ended.
 PAUSE = 0.5
+# How a line begins that is said once more at the end.
+NOTE = "note: "
 
 
 class Run:
@@ -88,6 +91,10 @@ class Run:
         for job in self.jobs:
             self.wait_for(job)
             print(f"check: {job.name}, which ran beside others, passed", flush=True)
+        for job in self.jobs:
+            for line in job.printed().splitlines():
+                if line.startswith(NOTE):
+                    print(f"check: {job.name}: {line[len(NOTE):]}", flush=True)
 
     def tell_of_the_rest(self, running):
         """Prints what those printed that were ended, or failed unreported."""

@@ -59,6 +59,13 @@ class TestCheck(Place):
                       "two\ncheck: second, which ran beside others, passed\n"
                       "three\ncheck: third, which ran beside others, passed\n", ran.stdout)
 
+    def test_notes(self):
+        self.row("first", "echo note: a test passed at the second try; echo one")
+        self.row("second", "echo a note: of nothing", "first")
+        ran = self.all()
+        self.assertEqual(ran.stdout.splitlines()[-2:], [
+            "check: second, which ran beside others, passed", "check: first: a test passed at the second try"])
+
     def test_needs(self):
         # each notes when it begins: nothing begins before what it needs is there
         self.row("first", "sleep 1; echo first >> $PLACE/order")
