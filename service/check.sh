@@ -7,7 +7,7 @@
 #
 #     service/check.sh [--fuzz SECONDS] [SECONDS]     (of each reader that is fuzzed; of the trial)
 #
-# It fails where a package is missing. With QLOCK_LEAVE_OUT=service it then leaves the service out, and passes. Builds the libraries
+# What happened in the trial is in service/out/history then. It fails where a package is missing. With QLOCK_LEAVE_OUT=service it then leaves the service out, and passes. Builds the libraries
 # where it has to (./library).
 set -eu
 trap 'exit 143' TERM
@@ -21,7 +21,7 @@ root=$here/..
 go=$here/go
 
 missing=
-for package in gcc pkg-config golang-go nats-server golang-github-nats-io-go-nats-dev golang-github-coreos-bbolt-dev \
+for package in curl gcc pkg-config golang-go nats-server golang-github-nats-io-go-nats-dev golang-github-coreos-bbolt-dev \
     golang-github-prometheus-client-golang-dev golang-github-burntsushi-toml-dev golang-github-spf13-cobra-dev; do
     dpkg-query -W -f '${Status}' "$package" 2> /dev/null | grep -q 'ok installed' || missing="$missing $package"
 done
@@ -65,7 +65,7 @@ fuzzing=$!
 trap '[ -z "$fuzzing" ] || kill -- "-$fuzzing" 2> /dev/null || true; rm -rf "$folder"' EXIT
 # a TTL that a machine with much else to do keeps, too
 "$here/out/bin/trial" --bin "$here/out/bin" --coterie "$here/wheel-4.toml" --folder "$folder/cluster" --ttl 5s --for "${1:-150}s" \
-    --exchange "$here/wheel-4-grown.toml"
+    --exchange "$here/wheel-4-grown.toml" --shards 8 --all-kinds --python "$root/python" --history "$here/out/history"
 "$here/out/bin/trial" --bin "$here/out/bin" --coterie "$here/wheel-4.toml" --folder "$folder/open" --for 60s --open-guard
 fuzzed=0
 wait "$fuzzing" || fuzzed=$?
@@ -73,4 +73,5 @@ fuzzing=
 cat "$folder/fuzz"
 [ "$fuzzed" = 0 ] || exit 1
 python3 "$here/attacks/run.py"
+"$here/trial/age.sh"
 echo "service: passed"

@@ -181,9 +181,9 @@ func run(o options) error {
 		p.fail(errInterrupted)
 	}()
 	began, mover := time.Now(), newMover(p)
-	// that a lock is lost while it is held is a matter of luck, so it goes on until something shows it, at most for thrice the time
+	// what happens is a matter of luck, so it goes on until there was enough of all, at most for thrice the time
 	lacks := func(f findings) bool {
-		return f.Passes < o.passes || !o.open && f.losses() == 0 && time.Since(began) < 3*o.length
+		return f.Passes < o.passes || !o.open && p.lacks(f) != "" && time.Since(began) < 3*o.length
 	}
 	for err == nil && (time.Since(began) < o.length || lacks(w.look())) && !(o.open && w.look().faults() > 0) {
 		if !o.open && p.random.Intn(3) == 0 {
@@ -200,7 +200,7 @@ func run(o options) error {
 			err = mover.begin()
 		}
 		if err == nil {
-			err = p.burst(5 * time.Second)
+			err = p.burst(2 * o.TTL)
 		}
 	}
 	if err == nil {
@@ -214,7 +214,7 @@ func run(o options) error {
 	if err != nil {
 		return err
 	}
-	return verdict(found, p.counts, o)
+	return p.verdict(found)
 }
 
 // startWorkers starts clients: sessions, and with all kinds some of each of these.
@@ -285,7 +285,8 @@ func (f findings) show() {
 }
 
 // verdict returns an error if the witness found something, or the trial tried too little.
-func verdict(f findings, counts map[string]int, o options) error {
+func (p *player) verdict(f findings) error {
+	o := p.options
 	if o.open && f.Faults[torn] > 0 {
 		fmt.Println("the witness found the open guard, as it has to")
 		return nil
@@ -293,19 +294,30 @@ func verdict(f findings, counts map[string]int, o options) error {
 	if o.open || f.faults() > 0 {
 		return errFaults
 	}
-	if o.exchange != "" && counts[exchanged] < 2 {
-		return fmt.Errorf("%w: the plan was not exchanged and back", errFaults)
-	}
-	if f.Passes == 0 || f.losses() == 0 {
-		return fmt.Errorf("%w: too little happened", errFaults)
-	}
-	if o.length >= 2*time.Minute && (counts[letGo] == 0 || o.stays > 0 && f.Stays == 0) {
-		return fmt.Errorf("%w: operators let nothing go, or nobody stayed inside", errFaults)
-	}
-	for _, kind := range kinds {
-		if counts[kind.name] == 0 && o.length >= 2*time.Minute && (kind.has == nil || kind.has(o)) {
-			return fmt.Errorf("%w: no %s", errFaults, kind.name)
-		}
+	if lack := p.lacks(f); lack != "" {
+		return fmt.Errorf("%w: %s", errFaults, lack)
 	}
 	return nil
+}
+
+// lacks returns what the trial tried too little, "" if there was enough of all. A short one need not try all.
+func (p *player) lacks(f findings) string {
+	p.mutex.Lock()
+	defer p.mutex.Unlock()
+	switch {
+	case f.Passes == 0 || f.losses() == 0:
+		return "too little happened"
+	case p.options.exchange != "" && p.counts[exchanged] < 2:
+		return "the plan was not exchanged and back"
+	case p.options.length < 2*time.Minute:
+		return ""
+	case p.counts[letGo] == 0 || p.options.stays > 0 && f.Stays == 0:
+		return "operators let nothing go, or nobody stayed inside"
+	}
+	for _, kind := range kinds {
+		if p.counts[kind.name] == 0 && (kind.has == nil || kind.has(p.options)) {
+			return "no " + kind.name
+		}
+	}
+	return ""
 }
