@@ -1,14 +1,16 @@
 #!/bin/sh
 # Tries the service where its packages are: vet, tests with the race detector, the guard in SQLite
-# and PostgreSQL, a simulation in virtual time, and a trial of two and a half minutes with kills,
-# stops, frozen servers, lost states, lost messages, operators, and an exchange of the plan and back.
-# Beside it each reader of bytes is fuzzed for ten seconds. Then come attacks, which the service has
-# to stand. It takes some seven minutes.
+# and PostgreSQL, a simulation in virtual time, and a trial of two and a half minutes with clients of all
+# kinds, several shards, kills, stops, frozen servers, lost states, lost messages, operators, and an
+# exchange of the plan and back. Beside it each reader of bytes is fuzzed for ten seconds. Then come
+# attacks, which the service has to stand, and a look at how old the stored run of the trial is. It
+# takes some seven minutes.
 #
 #     service/check.sh [--fuzz SECONDS] [SECONDS]     (of each reader that is fuzzed; of the trial)
 #
-# What happened in the trial is in service/out/history then. It fails where a package is missing. With QLOCK_LEAVE_OUT=service it then leaves the service out, and passes. Builds the libraries
-# where it has to (./library).
+# What happened in the trial is in service/out/history then. It fails where a package is missing. With
+# QLOCK_LEAVE_OUT=service it then leaves the service out, and passes. Builds the libraries where it has to
+# (./library).
 set -eu
 trap 'exit 143' TERM
 fuzz_seconds=10

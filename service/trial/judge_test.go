@@ -7,6 +7,8 @@ import (
 	"strings"
 	"testing"
 	"time"
+
+	"calvundek.example/service/internal/worlds"
 )
 
 // first and second are passes of which the guard takes the second one for a later one.
@@ -219,5 +221,19 @@ func TestDead(t *testing.T) {
 	f := judged(t, "1 a wait x", "1 a enter x 1000000 "+first, "2 - gone a-1", "2.1 a write x 5", "2.2 a lost x 2000000", "2.3 a bye")
 	if f.is(t, "a late word"); f.Writes != 0 || f.Lost != 0 {
 		t.Errorf("%+v", f)
+	}
+}
+
+// A quorum serves as long as all voters of one and the same do.
+func TestStreak(t *testing.T) {
+	cluster := worlds.NewCluster(t, worlds.Majority, time.Second) // any two of three
+	var s streak
+	for i, one := range []struct {
+		voters uint64
+		since  time.Duration
+	}{{0b001, 0}, {0b011, 2}, {0b111, 2}, {0b011, 2}, {0b110, 5}, {0b111, 5}, {0b100, 0}, {0b101, 8}} {
+		if s.next(cluster, one.voters, time.Duration(i+1)); s.since != one.since {
+			t.Errorf("step %d: %d", i+1, s.since)
+		}
 	}
 }

@@ -5,88 +5,54 @@ import (
 
 	"calvundek.example/service/internal/boot"
 	"calvundek.example/service/internal/config"
-	"calvundek.example/service/qlock"
 )
 
 // between is how long it is between two questions to the voters.
 const between = 300 * time.Millisecond
 
-// observer asks the voters how they are, so that the witness knows since when a quorum serves.
-type observer struct {
-	*player
-	serving, replying map[int]time.Duration // since when each voter says that it serves, and replies
-	served            time.Duration         // when a quorum served last, or it was reported that none does
+// streak is since when all voters of some quorum of each plan do something, and which voters have done it all that time.
+type streak struct {
+	since  time.Duration // 0 if no quorum does it
+	voters uint64
 }
 
-// observe asks until the trial is over.
+// next takes which voters do it now.
+func (s *streak) next(cluster *config.Cluster, voters uint64, now time.Duration) {
+	if s.voters &= voters; s.since > 0 && cluster.HasQuorums(s.voters) {
+		return
+	}
+	if s.since, s.voters = 0, voters; cluster.HasQuorums(voters) {
+		s.since = now
+	}
+}
+
+// observe asks the voters how they are until the trial is over, so that the witness knows since when a quorum serves. A voter that is
+// quiet gives its vote to nobody who enters.
 func (p *player) observe(over <-chan struct{}) {
-	o := observer{p, map[int]time.Duration{}, map[int]time.Duration{}, boot.Uptime()}
+	var serving, replying streak
+	served := boot.Uptime() // when a quorum served last, or it was said that none does
 	for {
 		select {
 		case <-over:
 			return
 		case <-time.After(between):
-			o.ask()
 		}
-	}
-}
-
-// ask asks once, and tells the witness. A voter that is quiet gives its vote to nobody who enters.
-func (o *observer) ask() {
-	cluster, statuses := o.cluster.Ask()
-	now := boot.Uptime()
-	for voter := range cluster.Names() {
-		status, replies := statuses[voter]
-		note(o.replying, voter, replies, now)
-		note(o.serving, voter, replies && status.Serves && status.Quiet == 0, now)
-	}
-	serving, replying := quorumSince(cluster, o.serving), quorumSince(cluster, o.replying)
-	o.witness.note("serve", serving.Microseconds())
-	if serving > 0 {
-		o.served = now
-	} else if replying > 0 && now-latest(replying, o.served) > 3*o.ttl {
-		o.served = now
-		o.witness.note("fault", "nobody-serves", "a quorum has replied for", now-replying)
-	}
-}
-
-// note notes since when something is so.
-func note(since map[int]time.Duration, voter int, isSo bool, now time.Duration) {
-	if !isSo {
-		delete(since, voter)
-	} else if since[voter] == 0 {
-		since[voter] = now
-	}
-}
-
-// quorumSince returns since when all voters of some quorum of each plan do something, 0 if none do.
-func quorumSince(cluster *config.Cluster, since map[int]time.Duration) time.Duration {
-	first := sinceOf(cluster.Planned, since)
-	if cluster.OldPlanned == nil || first == 0 {
-		return first
-	}
-	if second := sinceOf(cluster.OldPlanned, since); second != 0 {
-		return latest(first, second)
-	}
-	return 0
-}
-
-func sinceOf(plan *qlock.Plan, since map[int]time.Duration) (earliest time.Duration) {
-	for _, quorum := range plan.Quorums {
-		var all time.Duration
-		for voter := range plan.Names {
-			if quorum>>voter&1 == 0 {
-				continue
+		cluster, statuses := p.cluster.Ask()
+		now, serve, reply := boot.Uptime(), uint64(0), uint64(0)
+		for voter, status := range statuses {
+			reply |= 1 << voter
+			if status.Serves && status.Quiet == 0 {
+				serve |= 1 << voter
 			}
-			if since[voter] == 0 {
-				all = 0
-				break
-			}
-			all = latest(all, since[voter])
 		}
-		if all > 0 && (earliest == 0 || all < earliest) {
-			earliest = all
+		serving.next(cluster, serve, now)
+		replying.next(cluster, reply, now)
+		p.witness.note("serve", serving.since.Microseconds())
+		if serving.since > 0 {
+			served = now
+		} else if replying.since > 0 && now-latest(replying.since, served) > 3*p.ttl {
+			served = now
+			p.witness.note("fault", "nobody-serves", "a quorum has replied for", now-replying.since)
 		}
 	}
-	return earliest
 }
