@@ -18,7 +18,7 @@ const (
 	lostUpdates  = "lost updates"
 	turnsFell    = "turns that fell"
 	longWaits    = "waits longer than 3 TTL while a quorum served"
-	freeTries    = "failed tries of a free lock"
+	freeTries    = "tries that failed of a free lock"
 	nobodyServes = "times no quorum served for 3 TTL though its voters ran"
 	nothingSaid  = "calls that returned neither a lock nor an error"
 	gaveUpEarly  = "runs that gave up before their time"
@@ -55,6 +55,7 @@ type place struct {
 	stayed time.Duration // when the last one left that stayed for long
 	doubt  time.Duration // when something last happened to one that was inside or asked, or died
 	mayBe  bool          // somebody who died may have the lock: nobody entered since
+	died   bool          // that was so some time
 	left   time.Duration // when the last one was inside or asked
 	orders int           // how many orders of operators may let its grants go now
 	turns  []turned      // of those that asked for one, in the order in which they entered
@@ -258,7 +259,7 @@ func (j *judge) remove(at time.Duration, p *pass) {
 // doubt notes that something happened to one that asks or is inside. If it may have died, it may have the lock until somebody enters.
 func (j *judge) doubt(at time.Duration, p *pass, mayBe bool) {
 	if p.place != nil {
-		p.place.doubt, p.place.mayBe = at, p.place.mayBe || mayBe
+		p.place.doubt, p.place.mayBe, p.place.died = at, p.place.mayBe || mayBe, p.place.died || mayBe
 	}
 }
 
@@ -388,7 +389,11 @@ func (j *judge) judgeWait(at time.Duration, p *pass) {
 func (j *judge) judgeTry(at time.Duration, p *pass) {
 	j.found.Tries++
 	if len(p.place.passes) == 1 && !p.place.mayBe && p.since-p.place.left > j.ttl && p.since-j.disturbed > 2*j.ttl {
-		j.fault(at, freeTries, "%s: %s, and nobody was there", p.place.name, p.who.name)
+		why := ""
+		if p.place.died {
+			why = " of which a holder died before"
+		}
+		j.fault(at, freeTries+why, "%s: %s, and nobody was there", p.place.name, p.who.name)
 	}
 }
 

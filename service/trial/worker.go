@@ -231,7 +231,11 @@ func (h habits) brief(m *mouth) error {
 	defer end()
 	names := map[string]bool{}
 	for n := 1 + rand.Intn(4); n > 0; n-- {
-		names[choosePlace(h.Places)] = true
+		name := choosePlace(h.Places)
+		if rand.Intn(10) > 0 { // a lock of which a holder dies is nobody's for a TTL
+			name = fmt.Sprintf("seldom-%d", rand.Intn(10*h.Places))
+		}
+		names[name] = true
 	}
 	var sorted []string // else two could wait for one another
 	for name := range names {
