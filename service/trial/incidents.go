@@ -65,9 +65,9 @@ var kinds = []struct {
 	{"locks that operators unlocked", 2, (*player).unlock, nil},
 	{"herds of runs", 1, (*player).herd, hasAgents},
 	{"voters cut off", 3, func(p *player) { p.cut(p.cluster.Voters, (*local.Island).Cut) }, hasIslands},
-	{"voters that are not heard", 3, func(p *player) { p.cut(p.cluster.Voters, (*local.Island).Mute) }, hasFilter},
+	{"voters that are not heard", 3, func(p *player) { p.cut(p.cluster.Voters, (*local.Island).Mute) }, hasIslands},
 	{"clients cut off", 3, func(p *player) { p.cut(p.workers, (*local.Island).Cut) }, hasIslands},
-	{"clients that are not heard", 3, func(p *player) { p.cut(p.workers, (*local.Island).Mute) }, hasFilter},
+	{"clients that are not heard", 3, func(p *player) { p.cut(p.workers, (*local.Island).Mute) }, hasIslands},
 	{"agents cut off", 1, func(p *player) { p.cut(p.cluster.Agents, (*local.Island).Cut) },
 		func(o options) bool { return o.Islands && o.allKinds }},
 	{"servers cut off from one another", 2, (*player).part, hasIslands},
@@ -76,12 +76,6 @@ var kinds = []struct {
 
 func hasIslands(o options) bool { return o.Islands }
 func hasAgents(o options) bool  { return o.allKinds }
-
-// hasFilter returns whether packets can be dropped in one direction.
-func hasFilter(o options) bool {
-	_, err := exec.LookPath("nft")
-	return o.Islands && err == nil
-}
 
 // isKind returns whether incidents of a kind are played.
 func isKind(name string) bool {
@@ -159,13 +153,8 @@ func (p *player) limp() error {
 	return err
 }
 
-// tell tells the witness what happens to a process, and notes whether it is away.
-func (p *player) tell(word string, one *local.Process, isAway bool) {
-	p.mutex.Lock()
-	p.away[one] = isAway
-	p.mutex.Unlock()
-	p.witness.note(word, process(one))
-}
+// tell tells the witness what happens to a process.
+func (p *player) tell(word string, one *local.Process) { p.witness.note(word, process(one)) }
 
 // process returns the name of a process as the witness knows it.
 func process(one *local.Process) string { return fmt.Sprintf("%s-%d", one.Name, one.Pid()) }
@@ -191,8 +180,15 @@ func (p *player) later(one *local.Process, after time.Duration, back func() erro
 		if err := back(); err != nil {
 			p.fail(err)
 		}
-		p.tell("touch", one, false)
+		p.tell("touch", one)
+		p.isAway(one, false)
 	}()
+}
+
+func (p *player) isAway(one *local.Process, away bool) {
+	p.mutex.Lock()
+	defer p.mutex.Unlock()
+	p.away[one] = away
 }
 
 func (p *player) kill(from []*local.Process) {
@@ -200,7 +196,7 @@ func (p *player) kill(from []*local.Process) {
 	if one == nil {
 		return
 	}
-	p.tell("gone", one, true)
+	p.tell("gone", one)
 	one.Kill()
 	down := time.Duration(0)
 	if p.random.Intn(2) == 0 {
@@ -218,9 +214,9 @@ func (p *player) stop(from []*local.Process, length time.Duration) {
 		time.Sleep(time.Millisecond) // a client stands still while it is inside, if it comes inside soon
 	}
 	one.SignalAll(syscall.SIGSTOP)
-	p.tell("still", one, true)
+	p.tell("still", one)
 	p.later(one, length, func() error {
-		p.tell("still", one, true)
+		p.tell("still", one)
 		one.SignalAll(syscall.SIGCONT)
 		return nil
 	})
@@ -232,11 +228,7 @@ func (p *player) cut(from []*local.Process, cut func(i *local.Island, cut bool) 
 	if one == nil {
 		return
 	}
-	p.tell("touch", one, true)
-	if err := cut(one.Island, true); err != nil {
-		p.fail(err)
-	}
-	p.later(one, p.ttl/2+time.Duration(p.random.Int63n(int64(2*p.ttl))), func() error { return cut(one.Island, false) })
+	p.cutFor(one, func(isCut bool) error { return cut(one.Island, isCut) })
 }
 
 // part cuts two servers off from one another, which their clients still reach.
@@ -245,17 +237,16 @@ func (p *player) part() {
 	if one == nil {
 		return
 	}
-	other := p.cluster.Servers[p.random.Intn(len(p.cluster.Servers))]
-	if other == one {
-		other = p.cluster.Servers[0]
+	other := one
+	for other == one {
+		other = p.cluster.Servers[p.random.Intn(len(p.cluster.Servers))]
 	}
-	cut := func(cut bool) error {
-		if other == one {
-			return nil
-		}
-		return one.Part(other.Island, cut)
-	}
-	p.tell("touch", one, true)
+	p.cutFor(one, func(cut bool) error { return one.Part(other.Island, cut) })
+}
+
+// cutFor cuts something of a process for some time.
+func (p *player) cutFor(one *local.Process, cut func(cut bool) error) {
+	p.tell("touch", one)
 	if err := cut(true); err != nil {
 		p.fail(err)
 	}
@@ -269,7 +260,7 @@ func (p *player) fill() {
 	if one == nil {
 		return
 	}
-	p.tell("touch", one, true)
+	p.tell("touch", one)
 	if err := p.cluster.FillDisk(); err != nil {
 		p.fail(err)
 	}
@@ -395,17 +386,22 @@ func (p *player) failed() error {
 	return p.failure
 }
 
-// alone does something to a voter, once all the others are there. Those that no plan has any more end before: they can't start again.
-func (p *player) alone(do func(i int, one *local.Process) error) {
+// allThere waits until all voters are there. Those that no plan has any more end: they can't start again.
+func (p *player) allThere() {
 	p.back.Wait()
 	p.cluster.Dismiss()
+}
+
+// alone does something to a voter, once all the others are there.
+func (p *player) alone(do func(i int, one *local.Process) error) {
+	p.allThere()
 	i := p.random.Intn(len(p.cluster.Voters))
 	one := p.cluster.Voters[i]
-	p.tell("touch", one, true)
+	p.tell("touch", one)
 	if err := do(i, one); err != nil {
 		p.fail(err)
 	}
-	p.tell("touch", one, false)
+	p.tell("touch", one)
 }
 
 // state returns where the state of a voter is.
@@ -486,11 +482,11 @@ func (p *player) returnTo(i int, one *local.Process) error {
 
 // killAll kills all voters at once, and starts them, or all but one at first.
 func (p *player) killAll() {
-	p.back.Wait()
-	p.cluster.Dismiss()
+	p.allThere()
 	p.witness.note("all-ended", "")
 	for _, one := range p.cluster.Voters {
-		p.tell("gone", one, true)
+		p.isAway(one, true)
+		p.tell("gone", one)
 		one.Kill()
 	}
 	late := p.random.Intn(2 * len(p.cluster.Voters))
