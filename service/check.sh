@@ -9,7 +9,7 @@
 #     service/check.sh [--fuzz SECONDS] [SECONDS]     (of each reader that is fuzzed; of the trial)
 #
 # What happened in the trial is in service/out/history then. It fails where a package is missing. With
-# QLOCK_LEAVE_OUT=service it then leaves the service out, and passes. Builds the libraries where it has to
+# LEAVE_OUT=service it then leaves the service out, and passes. Builds the libraries where it has to
 # (./library).
 set -eu
 trap 'exit 143' TERM
@@ -28,7 +28,7 @@ for package in curl gcc pkg-config golang-go nats-server golang-github-nats-io-g
     dpkg-query -W -f '${Status}' "$package" 2> /dev/null | grep -q 'ok installed' || missing="$missing $package"
 done
 if [ -n "$missing" ]; then
-    [ "${QLOCK_LEAVE_OUT:-}" = service ] || { echo "service: apt-get install$missing (or QLOCK_LEAVE_OUT=service)" >&2; exit 1; }
+    [ "${LEAVE_OUT:-}" = service ] || { echo "service: apt-get install$missing (or LEAVE_OUT=service)" >&2; exit 1; }
     echo "note: the service was left out; apt-get install$missing"
     exit 0
 fi

@@ -7,7 +7,7 @@
 #     service/trial/hour.sh --piece N [OPTION..]      one of them; N is 1 to 6
 #
 # Each piece has a seed of its own, and its own TTL and shards. Options are those of the trial: --seed 7 repeats the incidents of a
-# piece, and --weight "voters killed=9" has more of one kind. With options, or if QLOCK_PIECE_SECONDS has another length, nothing
+# piece, and --weight "voters killed=9" has more of one kind. With options, or if PIECE_SECONDS has another length, nothing
 # is stored.
 #
 # By hand, when the code of the clients or the voters has changed: service/check.sh says so. It builds the programs, and takes a
@@ -32,7 +32,7 @@ case $piece in
     6) of="--ttl 10s --shards 8" ;;
     *) echo "hour.sh: pieces are 1 to 6" >&2; exit 2 ;;
 esac
-seconds=${QLOCK_PIECE_SECONDS:-1200}
+seconds=${PIECE_SECONDS:-1200}
 file=$here/trial/long.txt
 "$here/build" cmd/qlock-voter cmd/qlockctl cmd/qlockd trial
 folder=$(mktemp -d "${TMPDIR:-$here/out}/hour-XXXXXX")
