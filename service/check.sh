@@ -1,6 +1,6 @@
 #!/bin/sh
 # Tries the service where its packages are: vet, tests with the race detector, the guard in SQLite
-# and PostgreSQL, a simulation in virtual time, and a trial of two and a half minutes with clients of all
+# and PostgreSQL, a simulation in virtual time, and a trial of two to four minutes with clients of all
 # kinds, several shards, kills, stops, frozen servers, lost states, lost messages, operators, and an
 # exchange of the plan and back. Beside it each reader of bytes is fuzzed for ten seconds. Then come
 # attacks, which the service has to stand, and a look at how old the stored run of the trial is. It
@@ -66,7 +66,7 @@ setsid nice -n 10 "$here/fuzz" "$fuzz_seconds" > "$folder/fuzz" 2>&1 &
 fuzzing=$!
 trap '[ -z "$fuzzing" ] || kill -- "-$fuzzing" 2> /dev/null || true; rm -rf "$folder"' EXIT
 # a TTL that a machine with much else to do keeps, too
-"$here/out/bin/trial" --bin "$here/out/bin" --coterie "$here/wheel-4.toml" --folder "$folder/cluster" --ttl 5s --for "${1:-150}s" \
+"$here/out/bin/trial" --bin "$here/out/bin" --coterie "$here/wheel-4.toml" --folder "$folder/cluster" --ttl 5s --for "${1:-120}s" \
     --exchange "$here/wheel-4-grown.toml" --shards 8 --all-kinds --python "$root/python" --history "$here/out/history"
 "$here/out/bin/trial" --bin "$here/out/bin" --coterie "$here/wheel-4.toml" --folder "$folder/open" --for 60s --open-guard
 fuzzed=0
