@@ -1,6 +1,8 @@
 package main
 
 import (
+	"context"
+	"errors"
 	"fmt"
 	"os"
 	"path/filepath"
@@ -9,6 +11,7 @@ import (
 	"time"
 
 	"calvundek.example/service/internal/worlds"
+	"calvundek.example/service/locks"
 )
 
 // first and second are passes of which the guard takes the second one for a later one.
@@ -232,6 +235,30 @@ func TestStreak(t *testing.T) {
 	}{{0b001, 0}, {0b011, 2}, {0b111, 2}, {0b011, 2}, {0b110, 5}, {0b111, 5}, {0b100, 0}, {0b101, 8}} {
 		if s.next(cluster, one.voters, time.Duration(i+1)); s.since != one.since {
 			t.Errorf("step %d: %d", i+1, s.since)
+		}
+	}
+}
+
+// A run that has its time left has no reason to give up, unless it only tries, or the agent is gone.
+func TestNotRun(t *testing.T) {
+	for _, one := range []struct {
+		status int
+		fault  string
+		c      call
+		took   time.Duration
+		want   error
+	}{
+		{75, "x: somebody else has the lock: client 7", call{tries: true, wait: time.Second}, 0, locks.ErrHeld},
+		{75, "x: somebody else had the lock for 1s", call{wait: time.Second}, time.Second, context.DeadlineExceeded},
+		{75, "x: the session is over", call{wait: time.Second}, 0, errEarly},
+	} {
+		if err := notRun(one.status, one.fault, one.c, one.took); !errors.Is(err, one.want) {
+			t.Errorf("%s: %v", one.fault, err)
+		}
+	}
+	for _, fault := range []string{"agent: no agent is there", "agent: unexpected EOF"} {
+		if err := notRun(75, fault, call{wait: time.Second}, 0); errors.Is(err, errEarly) {
+			t.Errorf("%s: %v", fault, err)
 		}
 	}
 }

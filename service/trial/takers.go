@@ -261,10 +261,10 @@ func notRun(status int, fault string, c call, took time.Duration) error {
 		return err
 	case c.tries && strings.Contains(fault, "somebody else has the lock"):
 		return locks.ErrHeld
-	case strings.Contains(fault, "the session is over"):
-		return fmt.Errorf("%w: %v", errEarly, err)
 	case took >= c.wait:
 		return context.DeadlineExceeded
+	case !c.tries && !strings.Contains(fault, "agent:"): // which may be gone
+		return fmt.Errorf("%w: %v", errEarly, err)
 	}
 	return err
 }

@@ -131,7 +131,6 @@ func work(text string) error {
 			h.complain(h.live(mouths))
 		}
 	}
-	ended := make(chan struct{})
 	for _, m := range mouths {
 		go func(m *mouth) {
 			for {
@@ -139,8 +138,7 @@ func work(text string) error {
 			}
 		}(m)
 	}
-	<-ended
-	return nil
+	select {}
 }
 
 // complain writes why a pass failed, and waits a moment.
@@ -192,7 +190,7 @@ func (h habits) open(noisy int, mouths ...*mouth) (*locks.Client, func(), error)
 	return client, func() { once.Do(link.Close) }, nil
 }
 
-// live is one session. It ends when one of its goroutines fails.
+// live is one session, until it is over.
 func (h habits) live(mouths []*mouth) error {
 	client, end, err := h.open(h.Noise, mouths...)
 	if err != nil {
@@ -200,20 +198,18 @@ func (h habits) live(mouths []*mouth) error {
 	}
 	defer end()
 	defer closeSoon(client)
-	ended := make(chan error, len(mouths))
+	var all sync.WaitGroup
 	for _, m := range mouths {
+		all.Add(1)
 		go func(m *mouth) {
-			var err error
-			for err == nil {
-				err = h.pass(m, byLocks(client))
+			defer all.Done()
+			for client.Err() == nil {
+				h.complain(h.pass(m, byLocks(client)))
 			}
-			ended <- err
 		}(m)
 	}
-	for range mouths {
-		err = <-ended
-	}
-	return err
+	all.Wait()
+	return client.Err()
 }
 
 func closeSoon(client *locks.Client) {
@@ -282,7 +278,7 @@ func choosePlace(places int) string {
 // pass takes a lock, stays inside until it is lost or for some time, adds one to the count twice,
 // and gives the lock back. It writes also after Lost, so only the guard keeps late writes out.
 func (h habits) pass(m *mouth, take taker) error {
-	c := call{lock: choosePlace(h.Places), wait: 30 * time.Second, tries: rand.Intn(7) == 0, turns: rand.Intn(4) == 0}
+	c := call{lock: choosePlace(h.Places), wait: 4 * h.TTL, tries: rand.Intn(7) == 0, turns: rand.Intn(4) == 0}
 	if rand.Intn(15) == 0 { // it gives up soon
 		c.wait = time.Duration(1+rand.Intn(50)) * time.Millisecond
 	}

@@ -39,7 +39,7 @@ class Worker(threading.Thread):
     def step(self):
         lock, ttl = f"place-{random.randrange(self.habits['Places'])}", self.habits["TTL"] / 1e9
         tries, turns = random.randrange(7) == 0, random.randrange(4) == 0
-        wait = random.uniform(0.001, 0.05) if random.randrange(15) == 0 else 30
+        wait = random.uniform(0.001, 0.05) if random.randrange(15) == 0 else 4 * ttl
         left = threading.Event()
 
         def told(_):
