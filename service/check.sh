@@ -1,13 +1,16 @@
 #!/bin/sh
 # Tries the service where its packages are: vet, tests with the race detector, the guard in SQLite
-# and PostgreSQL, a simulation in virtual time, and a trial of two and a half minutes with kills,
-# stops, frozen servers, lost states, lost messages, operators, and an exchange of the plan and back.
-# Beside it each reader of bytes is fuzzed for ten seconds. Then come attacks, which the service has
-# to stand. It takes some seven minutes.
+# and PostgreSQL, a simulation in virtual time, and a trial of two to four minutes with clients of all
+# kinds, several shards, kills, stops, frozen servers, lost states, lost messages, operators, and an
+# exchange of the plan and back. Beside it each reader of bytes is fuzzed for ten seconds. Then come
+# attacks, which the service has to stand, and a look at how old the stored run of the trial is. It
+# takes some seven minutes.
 #
 #     service/check.sh [--fuzz SECONDS] [SECONDS]     (of each reader that is fuzzed; of the trial)
 #
-# Without the packages it says how to install them, and ends with status 0. Builds the libraries where it has to (./library).
+# What happened in the trial is in service/out/history then. It fails where a package is missing. With
+# LEAVE_OUT=service it then leaves the service out, and passes. Builds the libraries where it has to
+# (./library).
 set -eu
 trap 'exit 143' TERM
 fuzz_seconds=10
@@ -20,12 +23,13 @@ root=$here/..
 go=$here/go
 
 missing=
-for package in gcc pkg-config golang-go nats-server golang-github-nats-io-go-nats-dev golang-github-coreos-bbolt-dev \
+for package in curl gcc pkg-config golang-go nats-server golang-github-nats-io-go-nats-dev golang-github-coreos-bbolt-dev \
     golang-github-prometheus-client-golang-dev golang-github-burntsushi-toml-dev golang-github-spf13-cobra-dev; do
     dpkg-query -W -f '${Status}' "$package" 2> /dev/null | grep -q 'ok installed' || missing="$missing $package"
 done
 if [ -n "$missing" ]; then
-    echo "service: left out; apt-get install$missing"
+    [ "${LEAVE_OUT:-}" = service ] || { echo "service: apt-get install$missing (or LEAVE_OUT=service)" >&2; exit 1; }
+    echo "note: the service was left out; apt-get install$missing"
     exit 0
 fi
 build=${QLOCK_BUILD:-$root/build}
@@ -46,7 +50,7 @@ if ls /usr/lib/postgresql/*/bin/initdb > /dev/null 2>&1; then
 else
     # shellcheck disable=SC2086
     python3 "$here/tests.py" "$tests" $packages
-    echo "service: the guard was not tried in PostgreSQL; apt-get install postgresql"
+    echo "note: the guard was not tried in PostgreSQL; apt-get install postgresql"
 fi
 
 # in one goroutine, so without the race detector
@@ -62,8 +66,8 @@ setsid nice -n 10 "$here/fuzz" "$fuzz_seconds" > "$folder/fuzz" 2>&1 &
 fuzzing=$!
 trap '[ -z "$fuzzing" ] || kill -- "-$fuzzing" 2> /dev/null || true; rm -rf "$folder"' EXIT
 # a TTL that a machine with much else to do keeps, too
-"$here/out/bin/trial" --bin "$here/out/bin" --coterie "$here/wheel-4.toml" --folder "$folder/cluster" --ttl 5s --for "${1:-150}s" \
-    --exchange "$here/wheel-4-grown.toml"
+"$here/out/bin/trial" --bin "$here/out/bin" --coterie "$here/wheel-4.toml" --folder "$folder/cluster" --ttl 5s --for "${1:-120}s" \
+    --exchange "$here/wheel-4-grown.toml" --shards 8 --all-kinds --python "$root/python" --history "$here/out/history"
 "$here/out/bin/trial" --bin "$here/out/bin" --coterie "$here/wheel-4.toml" --folder "$folder/open" --for 60s --open-guard
 fuzzed=0
 wait "$fuzzing" || fuzzed=$?
@@ -71,4 +75,5 @@ fuzzing=
 cat "$folder/fuzz"
 [ "$fuzzed" = 0 ] || exit 1
 python3 "$here/attacks/run.py"
+"$here/trial/age.sh"
 echo "service: passed"

@@ -59,7 +59,7 @@ def main(command, packages):
         status, _ = run([*command, "-run", f"^({'|'.join(names)})$", package])
         if status != 0:
             return status
-    print(f"tests: passed at the second try: {' '.join(name for names in again.values() for name in names)}")
+    print(f"note: tests that passed at the second try: {' '.join(name for names in again.values() for name in names)}")
     return 0
 
 

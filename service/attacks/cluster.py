@@ -3,7 +3,6 @@
 import contextlib
 import json
 import os
-import random
 import re
 import select
 import shutil
@@ -16,7 +15,7 @@ import threading
 import time
 import urllib.error
 import urllib.request
-from collections.abc import Callable, Iterable, Iterator
+from collections.abc import Callable, Iterable
 from pathlib import Path
 from typing import Any
 
@@ -27,11 +26,6 @@ NAMES = ["hub", "rim1", "rim2", "rim3", "rim4"]
 LEVEL = 2  # at which `qlockctl init` begins a cluster
 WHEEL = SERVICE / "wheel-4.toml"
 GROWN = SERVICE / "wheel-4-grown.toml"
-
-# Ports come from below those that the system gives to connections. A connection could take one of those before the program
-# binds it that the port is for. Each process has blocks of ports of its own: while it runs, it listens at the first port of
-# each. internal/local/ports.go does the same.
-FIRST_PORT, END_PORT, BLOCK = 15000, 31000, 100
 
 # what is to be ended once a case is over, the newest first
 ENDINGS: list[Callable[[], object]] = []
@@ -44,47 +38,18 @@ def end_all() -> None:
             ENDINGS.pop()()
 
 
-def ports_end() -> int:
-    """Where the ports end that may be taken."""
-    with contextlib.suppress(OSError, ValueError):
-        first = int(Path("/proc/sys/net/ipv4/ip_local_port_range").read_text().split()[0])
-        if FIRST_PORT + BLOCK <= first < END_PORT:
-            return first
-    return END_PORT
-
-
-def bound(port: int) -> socket.socket | None:
-    """A socket that listens at a port of the loopback, None if the port is not free."""
-    s = socket.socket()
-    try:
-        s.bind(("127.0.0.1", port))
-        s.listen()
-    except OSError:
-        s.close()
-        return None
-    return s
-
-
-def own_ports() -> Iterator[int]:
-    """The ports of blocks that no other process has, each port once."""
-    firsts, held = list(range(FIRST_PORT, ports_end() - BLOCK + 1, BLOCK)), []
-    begin = random.randrange(len(firsts))
-    for first in firsts[begin:] + firsts[:begin]:
-        if s := bound(first):
-            held.append(s)
-            yield from range(first + 1, first + BLOCK)
-
-
-PORTS = own_ports()
-
-
 def free_port() -> int:
     """A port of the loopback that nobody uses, never the same one twice."""
-    for port in PORTS:
-        if s := bound(port):
-            s.close()
-            return port
-    raise RuntimeError("there are no free ports")
+    if not PORTS:
+        holder = subprocess.Popen([PROGRAMS / "session", "-ports"], stdin=subprocess.PIPE, stdout=subprocess.PIPE)
+        HOLDERS.append(holder)  # nobody else gets them while it runs, which ends with this process
+        assert holder.stdout
+        PORTS.extend(map(int, holder.stdout.readline().split()))
+    return PORTS.pop()
+
+
+PORTS: list[int] = []
+HOLDERS: list[subprocess.Popen[bytes]] = []
 
 
 def start(words: Iterable[object], log: Path | None = None, **more: Any) -> subprocess.Popen[bytes]:

@@ -104,6 +104,8 @@ def run_all(lanes: int) -> int:
                 wrong += show(case)
     for name in again:
         wrong += show(run_apart(name), ", tried again")
+    if again:
+        print(f"note: attacks that were tried again: {' '.join(again)}")
     print(f"{len(cases.CASES)} attacks, {wrong} wrong; known to succeed: {', '.join(known()) or 'none'}")
     return 1 if wrong else 0
 

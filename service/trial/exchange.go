@@ -44,23 +44,45 @@ func (m *mover) begin() error {
 		m.plan() // and once more
 	}
 	switch {
+	case m.retires && len(m.coteries) > 0 && m.random.Intn(2) == 0:
+		return m.hurry()
 	case m.retires:
 		m.retires = false
-		m.insist(func() error {
-			err := m.cluster.Retire()
-			if err == nil {
-				m.note(exchanged)
-			}
-			return err
-		})
+		m.insist(m.retire)
 	case len(m.coteries) > 0:
-		coterie := m.coteries[0]
-		if err := m.order(func() error { return m.cluster.Exchange(coterie) }); err != nil {
-			return err
-		}
-		m.coteries, m.retires = m.coteries[1:], true
-		m.insist(func() error { return m.cluster.Install(coterie) })
+		return m.exchange()
 	}
+	return nil
+}
+
+func (m *mover) retire() error {
+	err := m.cluster.Retire()
+	if err == nil {
+		m.witness.note("plan", "retire")
+		m.note(exchanged)
+	}
+	return err
+}
+
+// hurry ends a session, retires the old plan, and begins the next exchange, all within a TTL.
+func (m *mover) hurry() error {
+	m.evict("evict")
+	if err := m.order(m.retire); err != nil {
+		return nil // somebody has a request of the old plan: later
+	}
+	m.retires = false
+	return m.exchange()
+}
+
+// exchange begins an exchange.
+func (m *mover) exchange() error {
+	coterie := m.coteries[0]
+	m.witness.note("plan", "exchange")
+	if err := m.order(func() error { return m.cluster.Exchange(coterie) }); err != nil {
+		return err
+	}
+	m.coteries, m.retires = m.coteries[1:], true
+	m.insist(func() error { return m.cluster.Install(coterie) })
 	return nil
 }
 

@@ -4,9 +4,10 @@
 
 `rt ci` proves every crate and its tests, has the prover refuse wrong bodies, and runs tests and
 programs. It takes nearly all of the time. The other checks (CHECKS) run beside it, each once all
-that it needs is there. What ran beside others is printed at the end, and last of all which crates
-took the most processor seconds. The run ends with the first check that is found to have failed, and
-with its status.
+that it needs is there. What ran beside others is printed at the end, then which crates took the
+most processor seconds. The run ends with the first check that is found to have failed, and with its
+status. Lines of a check that begin with "note:" are said once more at the end: what was left out,
+and what needed a second try.
 """
 import os
 import sys
@@ -36,6 +37,8 @@ CHECKS = (
 )
 # How many seconds pass between two looks at what has ended.
 PAUSE = 0.5
+# How a line begins that is said once more at the end.
+NOTE = "note: "
 
 
 class Run:
@@ -93,6 +96,10 @@ class Run:
             self.wait_for(job)
             print(f"check: {job.name}, which ran beside others, passed in {job.seconds:.0f} processor seconds", flush=True)
         print(*(f"check: {line}" for line in self.times.lines(self.proofs.seconds)), sep="\n", flush=True)
+        for job in self.jobs:
+            for line in job.printed().splitlines():
+                if line.startswith(NOTE):
+                    print(f"check: {job.name}: {line[len(NOTE):]}", flush=True)
 
     def tell_of_the_rest(self, running):
         """Prints what those printed that were ended, or failed unreported."""

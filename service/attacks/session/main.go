@@ -6,7 +6,8 @@
 //	take PREFIX COUNT    takes locks PREFIX-0 .. and keeps them; taken COUNT failed N WHY
 //	close                closed WHY
 //
-// It says "open NUMBER" first, and "lost NAME" when a lock may be lost that it has.
+// It says "open NUMBER" first, and "lost NAME" when a lock may be lost that it has. With -ports it prints ports that nobody uses, and
+// keeps others from them until its input ends.
 package main
 
 import (
@@ -15,12 +16,14 @@ import (
 	"encoding/hex"
 	"flag"
 	"fmt"
+	"io"
 	"os"
 	"strconv"
 	"strings"
 	"sync"
 	"time"
 
+	"calvundek.example/service/internal/local"
 	"calvundek.example/service/locks"
 )
 
@@ -45,7 +48,18 @@ func main() {
 	flag.StringVar(&c.User, "user", "", "the user")
 	flag.StringVar(&c.Cert, "cert", "", "the file of the certificate")
 	flag.StringVar(&c.Key, "key", "", "the file of its key")
+	ports := flag.Bool("ports", false, "print ports that nobody uses, and keep them")
 	flag.Parse()
+	if *ports {
+		free, err := local.FreePorts(local.BlockSize - 1)
+		if err != nil {
+			fmt.Fprintln(os.Stderr, "session:", err)
+			os.Exit(1)
+		}
+		fmt.Println(strings.Trim(fmt.Sprint(free), "[]"))
+		_, _ = io.Copy(io.Discard, os.Stdin)
+		return
+	}
 	ctx, cancel := context.WithTimeout(context.Background(), 20*time.Second)
 	client, err := locks.Open(ctx, c)
 	cancel()

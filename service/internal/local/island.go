@@ -9,11 +9,8 @@ import (
 	"strings"
 )
 
-// serverAddress is where the servers are if processes have network namespaces.
-const serverAddress = "10.77.255.1"
-
-// Island is the network namespace of one process, with one cable to the servers. It needs root and iproute2, and nftables
-// for one direction and for losses.
+// Island is the network namespace of one process, with one cable to this machine, which passes on what is for others. It needs root
+// and iproute2, and nftables for one direction and for losses.
 type Island struct {
 	name, cable string
 	number      int
@@ -78,15 +75,31 @@ func (i *Island) Mute(mute bool) error {
 	return i.filter("add table inet qlock; add chain inet qlock out { type filter hook output priority 0; policy drop; }")
 }
 
+// Address is where the process of the island is.
+func (i *Island) Address() string { return fmt.Sprintf("10.77.%d.2", i.number) }
+
+// Part cuts the island off from another one alone, or ends that.
+func (i *Island) Part(from *Island, cut bool) error {
+	word := "del"
+	if cut {
+		word = "add"
+	}
+	return ip(fmt.Sprintf("-n %s route %s blackhole %s", i.name, word, from.Address()))
+}
+
 // within returns the words that run a program on the island.
 func (i *Island) within(words []string) []string {
 	return append([]string{"ip", "netns", "exec", i.name}, words...)
 }
 
-// addAddress gives this machine the servers' address, and returns what takes it away.
-func addAddress() (func(), error) {
-	_ = ip("addr del " + serverAddress + "/32 dev lo") // of a trial that was killed
-	return func() { _ = ip("addr del " + serverAddress + "/32 dev lo") }, ip("addr add " + serverAddress + "/32 dev lo")
+// forward lets this machine pass on what comes from one island for another, and returns what ends that.
+func forward() (func(), error) {
+	const file = "/proc/sys/net/ipv4/ip_forward"
+	before, err := os.ReadFile(file)
+	if err != nil {
+		return nil, err
+	}
+	return func() { _ = os.WriteFile(file, before, 0o644) }, os.WriteFile(file, []byte("1\n"), 0o644)
 }
 
 // smallDisk mounts a small file system over a voter's folder, and returns what takes it away. It needs root.

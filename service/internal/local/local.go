@@ -11,10 +11,17 @@ import (
 	"os"
 	"os/exec"
 	"path/filepath"
+	"strconv"
 	"strings"
+	"sync"
+	"syscall"
 	"time"
 
 	"calvundek.example/service/internal/config"
+	"calvundek.example/service/internal/operator"
+	"calvundek.example/service/internal/voter"
+	"calvundek.example/service/internal/wire"
+	"calvundek.example/service/transport"
 )
 
 // ErrSetUp is returned if a cluster can't be started.
@@ -75,6 +82,22 @@ func (p *Process) Pid() int { return p.run.Process.Pid }
 // Signal sends a signal.
 func (p *Process) Signal(s os.Signal) { _ = p.run.Process.Signal(s) }
 
+// SignalAll sends a signal to the process, and to all that it started.
+func (p *Process) SignalAll(s syscall.Signal) { signalAll(p.Pid(), s) }
+
+func signalAll(pid int, s syscall.Signal) {
+	_ = syscall.Kill(pid, s)
+	lists, _ := filepath.Glob(fmt.Sprintf("/proc/%d/task/*/children", pid))
+	for _, list := range lists {
+		children, _ := os.ReadFile(list)
+		for _, word := range strings.Fields(string(children)) {
+			if child, err := strconv.Atoi(word); err == nil {
+				signalAll(child, s)
+			}
+		}
+	}
+}
+
 // Ended returns whether the process has ended by itself, and waits for that for some time.
 func (p *Process) Ended(within time.Duration) bool {
 	select {
@@ -104,28 +127,31 @@ func (p *Process) Says(text string, within time.Duration) bool {
 	return false
 }
 
-// Cluster is three servers of NATS, and the voters of a coterie.
+// Cluster is three servers of NATS, the voters of a coterie, and agents.
 type Cluster struct {
-	Folder, Bin, File string
-	Settings          *config.Cluster
-	names             []string // of all voters that were ever there
-	Servers, Voters   []*Process
-	Listen            []string   // where the voters' numbers are
-	made              []*Process // all voters that were ever there: those of Voters, then those that were dismissed
-	all               []*Process
-	islands           bool
-	loss              int
-	cleanUp           []func()
+	Folder, Bin, File       string
+	Settings                *config.Cluster
+	names                   []string // of all voters that were ever there
+	Servers, Voters, Agents []*Process
+	Listen                  []string   // where the voters' numbers are
+	made                    []*Process // all voters that were ever there: those of Voters, then those that were dismissed
+	all                     []*Process
+	islands                 bool
+	loss                    int
+	cleanUp                 []func()
+	linking                 sync.Once
+	link                    *transport.NATS // by which Ask asks
 }
 
-// Options say how a cluster is made. Bin has qlock-voter and qlockctl.
+// Options say how a cluster is made. Bin has qlock-voter and qlockctl, and qlockd for agents.
 type Options struct {
 	Folder, Bin, Coterie string
 	TTL                  time.Duration
-	Islands              bool // voters and clients have network namespaces of their own, which needs root
+	Islands              bool // all processes have network namespaces of their own, which needs root
 	SmallDisk            bool // the first voter has a disk that is soon full, which needs root
 	Shards               int  // of the cluster, 0 for 1
-	Loss                 int  // how many of 100 packets are lost on each island, in each direction
+	Loss                 int  // how many of 100 packets are lost on each island but those of servers, in each direction
+	Agents               int
 }
 
 // Start makes a cluster in a new folder, and starts it.
@@ -142,15 +168,14 @@ func Start(o Options) (*Cluster, error) {
 }
 
 func (c *Cluster) start(o Options) error {
-	address := "127.0.0.1"
 	if o.Islands {
-		remove, err := addAddress()
+		remove, err := forward()
 		if err != nil {
 			return err
 		}
-		c.islands, c.loss, c.cleanUp, address = true, o.Loss, append(c.cleanUp, remove), serverAddress
+		c.islands, c.loss, c.cleanUp = true, o.Loss, append(c.cleanUp, remove)
 	}
-	urls, err := c.startServers(address)
+	urls, err := c.startServers()
 	if err != nil {
 		return err
 	}
@@ -174,7 +199,28 @@ func (c *Cluster) start(o Options) error {
 	if err := c.grow(); err != nil {
 		return err
 	}
+	for i := 0; i < o.Agents; i++ {
+		if err := c.startAgent(i); err != nil {
+			return err
+		}
+	}
 	return c.wait()
+}
+
+// Socket returns where an agent listens. Its last part is the name of the agent.
+func (c *Cluster) Socket(i int) string { return filepath.Join(c.Folder, fmt.Sprint("agent-", i)) }
+
+// startAgent writes an agent's file, and starts the agent.
+func (c *Cluster) startAgent(i int) error {
+	file := c.Socket(i) + ".toml"
+	if err := os.WriteFile(file, []byte(fmt.Sprintf("cluster = %q\nsocket = %q\n", c.File, c.Socket(i))), 0o644); err != nil {
+		return err
+	}
+	agent, err := c.Process(filepath.Base(c.Socket(i)), filepath.Join(c.Bin, "qlockd"), "start", "-c", file)
+	if err == nil {
+		c.Agents = append(c.Agents, agent)
+	}
+	return err
 }
 
 // read reads the cluster's file.
@@ -236,6 +282,59 @@ func (c *Cluster) Dismiss() {
 	}
 }
 
+// console returns the cluster's file as it is now, and an operator's console, nil if there is none.
+func (c *Cluster) console() (*config.Cluster, *operator.Console) {
+	cluster, err := config.ReadCluster(c.File)
+	if err != nil {
+		return c.Settings, nil
+	}
+	c.linking.Do(func() {
+		if c.link, err = transport.Connect(cluster, config.Access{}, "trial"); err == nil {
+			c.cleanUp = append(c.cleanUp, c.link.Close)
+		}
+	})
+	if c.link == nil {
+		return cluster, nil
+	}
+	return cluster, operator.New(cluster, c.link, wire.NoUser)
+}
+
+// Sessions returns the open sessions of a voter that replies within a second.
+func (c *Cluster) Sessions(number int) (sessions []voter.SessionView) {
+	_, console := c.console()
+	if console == nil {
+		return nil
+	}
+	ctx, cancel := context.WithTimeout(context.Background(), time.Second)
+	defer cancel()
+	_ = console.List(ctx, "sessions", number, func(page []byte) error {
+		var lists voter.Lists
+		err := json.Unmarshal(page, &lists)
+		sessions = append(sessions, lists.Sessions...)
+		return err
+	})
+	return sessions
+}
+
+// Ask returns the cluster's file as it is now, and what voters say of themselves that reply within a second, by their numbers.
+func (c *Cluster) Ask() (*config.Cluster, map[int]voter.Status) {
+	found := map[int]voter.Status{}
+	cluster, console := c.console()
+	if console == nil {
+		return cluster, found
+	}
+	ctx, cancel := context.WithTimeout(context.Background(), time.Second)
+	defer cancel()
+	replies, _ := console.Ask(ctx, "status", console.All()...)
+	for _, reply := range replies {
+		var status voter.Status
+		if reply.Err == nil && json.Unmarshal(reply.Body, &status) == nil {
+			found[reply.Voter] = status
+		}
+	}
+	return cluster, found
+}
+
 // LetGo orders `evict NUMBER` or `unlock LOCK` as an operator does, and returns how many grants the
 // voters let go. Those that are away do not hear of it.
 func (c *Cluster) LetGo(words ...string) (total int) {
@@ -253,7 +352,8 @@ func (c *Cluster) LetGo(words ...string) (total int) {
 	return total
 }
 
-func (c *Cluster) startServers(address string) (urls []string, err error) {
+// startServers starts three servers of NATS. On islands each has an address of its own, so that they can be cut off from one another.
+func (c *Cluster) startServers() (urls []string, err error) {
 	ports, err := FreePorts(6)
 	if err != nil {
 		return nil, err
@@ -262,13 +362,20 @@ func (c *Cluster) startServers(address string) (urls []string, err error) {
 	if err != nil {
 		return nil, err
 	}
+	islands, addresses := make([]*Island, 3), []string{"127.0.0.1", "127.0.0.1", "127.0.0.1"}
+	for i := 0; i < 3 && c.islands; i++ {
+		if islands[i], err = c.newIsland(i, 0); err != nil {
+			return nil, err
+		}
+		addresses[i] = islands[i].Address()
+	}
 	var routes []string
-	for _, port := range ports[3:] {
-		routes = append(routes, fmt.Sprintf("nats://%s:%d", address, port))
+	for i, port := range ports[3:] {
+		routes = append(routes, fmt.Sprintf("nats://%s:%d", addresses[i], port))
 	}
 	for i, port := range ports[:3] {
-		urls = append(urls, fmt.Sprintf("nats://%s:%d", address, port))
-		server, err := c.process(fmt.Sprintf("nats-%d", i), nil, program, "-a", address, "-p", fmt.Sprint(port),
+		urls = append(urls, fmt.Sprintf("nats://%s:%d", addresses[i], port))
+		server, err := c.process(fmt.Sprintf("nats-%d", i), islands[i], program, "-a", addresses[i], "-p", fmt.Sprint(port),
 			"-cluster", routes[i], "-routes", strings.Join(routes, ","), "-cluster_name", "local")
 		if err != nil {
 			return nil, err
@@ -367,12 +474,18 @@ func (c *Cluster) Process(name string, words ...string) (*Process, error) {
 	if !c.islands {
 		return c.process(name, nil, words...)
 	}
-	island, err := newIsland(len(c.all), c.loss)
-	c.cleanUp = append(c.cleanUp, island.remove)
+	island, err := c.newIsland(len(c.all), c.loss)
 	if err != nil {
 		return nil, err
 	}
 	return c.process(name, island, words...)
+}
+
+// newIsland makes an island that is removed at the end.
+func (c *Cluster) newIsland(number, loss int) (*Island, error) {
+	island, err := newIsland(number, loss)
+	c.cleanUp = append(c.cleanUp, island.remove)
+	return island, err
 }
 
 func (c *Cluster) process(name string, island *Island, words ...string) (*Process, error) {

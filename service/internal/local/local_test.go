@@ -40,7 +40,7 @@ func TestFailedStart(t *testing.T) {
 // Ports are below those of connections, another process can't have their block, and none comes twice.
 func TestFreePorts(t *testing.T) {
 	seen := map[int]bool{}
-	for len(seen) < 2*blockSize {
+	for len(seen) < 2*BlockSize {
 		ports, err := FreePorts(7)
 		if err != nil {
 			t.Fatal(err)

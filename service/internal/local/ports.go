@@ -12,11 +12,11 @@ import (
 
 // Ports come from below those that the system gives to connections. A connection could take one of those before the
 // program binds it that the port is for. Each process has blocks of ports of its own: while it runs, it listens at the
-// first port of each. attacks/cluster.py does the same.
+// first port of each.
 const (
 	firstPort = 15000
 	endPort   = 31000
-	blockSize = 100
+	BlockSize = 100 // how many ports a block has, with the first one
 )
 
 // ErrPorts is returned if no ports are left.
@@ -50,12 +50,12 @@ func FreePorts(n int) (ports []int, err error) {
 
 // takeBlock takes a block that no process has.
 func takeBlock() error {
-	count := (portsEnd() - firstPort) / blockSize
+	count := (portsEnd() - firstPort) / BlockSize
 	begin := rand.New(rand.NewSource(time.Now().UnixNano())).Intn(count)
 	for i := 0; i < count; i++ {
-		first := firstPort + (begin+i)%count*blockSize
+		first := firstPort + (begin+i)%count*BlockSize
 		if l, err := listen(first); err == nil {
-			own.held, own.next, own.left = append(own.held, l), first+1, blockSize-1
+			own.held, own.next, own.left = append(own.held, l), first+1, BlockSize-1
 			return nil
 		}
 	}
@@ -73,7 +73,7 @@ func portsEnd() int {
 	if err == nil {
 		_, err = fmt.Sscan(string(text), &first)
 	}
-	if err != nil || first < firstPort+blockSize || first > endPort {
+	if err != nil || first < firstPort+BlockSize || first > endPort {
 		return endPort
 	}
 	return first

@@ -60,6 +60,14 @@ class TestCheck(Place):
                          "three\ncheck: third, which ran beside others, passed in 0 processor seconds\n"
                          r"check: processor seconds: \d+ \(proof 0, edits 0, tests 0, build 0, rest \d+\)\n")
 
+    def test_notes(self):
+        self.row("first", "echo note: a test passed at the second try; echo one")
+        self.row("second", "echo a note: of nothing", "first")
+        ran = self.all()
+        *_, times, note = ran.stdout.splitlines()
+        self.assertRegex(times, "^check: processor seconds: ")
+        self.assertEqual(note, "check: first: a test passed at the second try")
+
     def test_needs(self):
         # each notes when it begins: nothing begins before what it needs is there
         self.row("first", "sleep 1; echo first >> $PLACE/order")
