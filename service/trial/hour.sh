@@ -36,6 +36,7 @@ seconds=${PIECE_SECONDS:-1200}
 file=$here/trial/long.txt
 "$here/build" cmd/qlock-voter cmd/qlockctl cmd/qlockd trial
 folder=$(mktemp -d "${TMPDIR:-$here/out}/hour-XXXXXX")
+cp -R "$here/out/bin" "$folder/bin" # another piece may build them again meanwhile
 trap 'rm -rf "$folder"' EXIT
 trap 'exit 143' TERM
 commit=$(git -C "$here" rev-parse HEAD)
@@ -44,8 +45,8 @@ options="--everything --all-kinds --for ${seconds}s --each 8 --places 24 $of"
 begin=$(cat /proc/loadavg)
 status=0
 # shellcheck disable=SC2086
-unshare -n -m sh -c 'ip link set lo up && exec "$@"' sh "$here/out/bin/trial" $options "$@" --python "$here/../python" \
-    --bin "$here/out/bin" --folder "$folder/cluster" --coterie "$here/wheel-4.toml" \
+unshare -n -m sh -c 'ip link set lo up && exec "$@"' sh "$folder/bin/trial" $options "$@" --python "$here/../python" \
+    --bin "$folder/bin" --folder "$folder/cluster" --coterie "$here/wheel-4.toml" \
     --exchange "$here/wheel-4-grown.toml" --history "$here/out/history-$piece" > "$folder/found" 2>&1 || status=$?
 {
     echo "piece $piece of $commit"
