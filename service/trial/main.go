@@ -272,8 +272,9 @@ func show(counts map[string]int) {
 
 // show prints what was found.
 func (f findings) show() {
-	fmt.Printf("%d passes, %d writes, %d turns, %d failed tries, %d locks of sessions that died; longest wait while a quorum served %.2f s\n",
-		f.Passes, f.Writes, f.Turns, f.Tries, f.Gone, f.LongestWait.Seconds())
+	fmt.Printf("%d passes, %d writes, %d turns, %d failed tries, %d of them of a lock that nobody had since a holder died; "+
+		"%d locks of sessions that died; longest wait while a quorum served %.2f s\n",
+		f.Passes, f.Writes, f.Turns, f.Tries, f.Doubtful, f.Gone, f.LongestWait.Seconds())
 	fmt.Printf("locks that were lost while held: %d; entries while one that was let go was inside: %d; "+
 		"shows that the guard refused: %d; passes that stayed inside: %d\n", f.Lost, f.Met, f.Refused, f.Stays)
 	for _, name := range []string{twoInside, torn, lostUpdates, turnsFell, longWaits, freeTries, nobodyServes, nothingSaid, gaveUpEarly, saidRetired} {
