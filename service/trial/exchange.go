@@ -50,6 +50,7 @@ func (m *mover) begin() error {
 		m.retires = false
 		m.insist(m.retire)
 	case len(m.coteries) > 0:
+		_ = m.cluster.Retire() // once more, as operators are told: a voter that was away did not hear of it
 		return m.exchange()
 	}
 	return nil

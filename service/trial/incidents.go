@@ -285,8 +285,8 @@ func (p *player) fill() {
 // letGo is what the grants are counted as that voters let go at an operator's word.
 const letGo = "grants let go for operators"
 
-// evict lets an operator end a session of a client or an agent. Nobody else gets what it has while it may work, unless that is let go
-// at once.
+// evict lets an operator end a session of a client or an agent. Nobody else gets what it has while it may work, unless
+// that is let go at once.
 func (p *player) evict(word string) {
 	session, one := p.anySession()
 	if one == "" {
@@ -333,8 +333,8 @@ func (p *player) herd() {
 			go func(i int) {
 				defer runs.Done()
 				c, began := call{wait: 6 * p.ttl}, time.Now()
-				run := exec.Command(filepath.Join(p.cluster.Bin, "qlockctl"), "run", "-c", p.cluster.File, "--wait", c.wait.String(),
-					fmt.Sprint("herd-", i), "true")
+				run := exec.Command(filepath.Join(p.cluster.Bin, "qlockctl"), "run", "-c", p.cluster.File,
+					"--wait", c.wait.String(), fmt.Sprint("herd-", i), "true")
 				out, _ := run.CombinedOutput()
 				if err := notRun(run.ProcessState.ExitCode(), string(out), c, time.Since(began)); errors.Is(err, errEarly) {
 					p.witness.note("fault", "early", strings.ReplaceAll(err.Error(), "\n", " "))

@@ -26,7 +26,8 @@ const (
 )
 
 // reported are the faults that workers report themselves, by the words of their lines.
-var reported = map[string]string{"nothing": nothingSaid, "early": gaveUpEarly, "retired": saidRetired, "nobody-serves": nobodyServes}
+var reported = map[string]string{"nothing": nothingSaid, "early": gaveUpEarly, "retired": saidRetired,
+	"nobody-serves": nobodyServes}
 
 // pass is a call for a lock, or for a session, and what follows if it got it. Times are by CLOCK_BOOTTIME.
 type pass struct {
@@ -55,7 +56,7 @@ type place struct {
 	stayed time.Duration // when the last one left that stayed for long
 	doubt  time.Duration // when something last happened to one that was inside or asked, or died
 	mayBe  bool          // somebody who died may have the lock: nobody entered since
-	died   bool          // that was so some time
+	died   bool          // that was so once
 	left   time.Duration // when the last one was inside or asked
 	orders int           // how many orders of operators may let its grants go now
 	turns  []turned      // of those that asked for one, in the order in which they entered
@@ -87,6 +88,7 @@ type pair struct{ first, second *pass }
 type findings struct {
 	Passes, Writes, Tries, Turns, Gone int
 	Met, Refused, Lost, Stays          int
+	Doubtful                           int // failed tries of a lock that nobody had since a holder died
 	LongestWait                        time.Duration
 	Faults                             map[string]int
 }
@@ -102,8 +104,8 @@ func (f findings) faults() (sum int) {
 // losses returns how often something showed that a lock was lost while it was held.
 func (f findings) losses() int { return f.Lost + f.Met + f.Refused }
 
-// judge judges a history, line by line: what each worker did, and what the trial did to whom. It reads no clock. It calls the
-// library for the guard alone.
+// judge judges a history, line by line: what each worker did, and what the trial did to whom. It reads no clock. It calls
+// the library for the guard alone.
 type judge struct {
 	ttl     time.Duration
 	open    bool // the guard admits everything: a fault on purpose
@@ -121,8 +123,8 @@ type judge struct {
 }
 
 func newJudge(ttl time.Duration, open bool) *judge {
-	return &judge{ttl: ttl, open: open, places: map[string]*place{}, workers: map[string]*worker{}, ordered: map[string]int{},
-		found: findings{Faults: map[string]int{}}, acts: map[string]time.Duration{}}
+	return &judge{ttl: ttl, open: open, places: map[string]*place{}, workers: map[string]*worker{},
+		ordered: map[string]int{}, found: findings{Faults: map[string]int{}}, acts: map[string]time.Duration{}}
 }
 
 // fault counts a fault, and prints the first ones.
@@ -133,8 +135,8 @@ func (j *judge) fault(at time.Duration, name, format string, words ...interface{
 	}
 }
 
-// take takes a line, and returns what its worker has to know. What a worker says begins with its name, and what the trial says
-// with "-".
+// take takes a line, and returns what its worker has to know. What a worker says begins with its name, and what the trial
+// says with "-".
 func (j *judge) take(at time.Duration, who string, words []string) string {
 	if who == "-" {
 		j.takeIncident(at, words)
@@ -142,7 +144,8 @@ func (j *judge) take(at time.Duration, who string, words []string) string {
 	}
 	one := j.workers[who]
 	if words[0] == "name" {
-		j.workers[who] = &worker{name: who, process: strings.SplitN(who, "/", 2)[0], agent: strings.Join(words[1:], ""), passes: map[string]*pass{}}
+		j.workers[who] = &worker{name: who, process: strings.SplitN(who, "/", 2)[0], agent: strings.Join(words[1:], ""),
+			passes: map[string]*pass{}}
 		return "ok"
 	} else if one == nil { // it was taken for dead
 		return "late"
@@ -256,7 +259,8 @@ func (j *judge) remove(at time.Duration, p *pass) {
 	}
 }
 
-// doubt notes that something happened to one that asks or is inside. If it may have died, it may have the lock until somebody enters.
+// doubt notes that something happened to one that asks or is inside. If it may have died, it may have the lock until
+// somebody enters.
 func (j *judge) doubt(at time.Duration, p *pass, mayBe bool) {
 	if p.place != nil {
 		p.place.doubt, p.place.mayBe, p.place.died = at, p.place.mayBe || mayBe, p.place.died || mayBe
@@ -309,7 +313,8 @@ func (j *judge) judgePair(ended time.Duration, both pair) {
 	case both.first.excused || both.second.excused:
 		j.found.Met++
 	case ended > later:
-		j.fault(later, twoInside+j.afterExchanges(later), "%s: %s and %s, for %v at least", both.first.place.name, both.first.who.name, both.second.who.name, ended-later)
+		j.fault(later, twoInside+j.afterExchanges(later), "%s: %s and %s, for %v at least", both.first.place.name,
+			both.first.who.name, both.second.who.name, ended-later)
 	}
 }
 
@@ -322,18 +327,20 @@ func latest(times ...time.Duration) (last time.Duration) {
 	return last
 }
 
-// afterExchanges returns what to say if operators ended a session, retired a plan and began to exchange the next one in a short time.
+// afterExchanges returns what to say if operators ended a session, retired a plan and began to exchange the next one within
+// a TTL.
 func (j *judge) afterExchanges(at time.Duration) string {
 	evict, retire, exchange := j.acts["evict"], j.acts["retire"], j.acts["exchange"]
 	last := latest(evict, retire, exchange)
-	if evict == 0 || retire == 0 || retire > exchange || last-evict > j.ttl || last-retire > j.ttl || at-last > 2*j.ttl {
+	isHasty := evict > 0 && retire > 0 && retire <= exchange && last-evict <= j.ttl && last-retire <= j.ttl
+	if !isHasty || at-last > 2*j.ttl {
 		return ""
 	}
 	return ", after evict, retire and exchange within a TTL"
 }
 
-// turn judges the turn of one that is inside: it is greater than those of all that entered before, and less than those of all that
-// entered later. Who stood still may say it late.
+// turn judges the turn of one that is inside: it is greater than those of all that entered before, and less than those of
+// all that entered later. Who stood still may say it late.
 func (j *judge) turn(at time.Duration, p *pass, turn uint64) {
 	if p.excused || !p.isInside() {
 		return
@@ -356,8 +363,8 @@ func (j *judge) turn(at time.Duration, p *pass, turn uint64) {
 	p.place.turns = turns
 }
 
-// judgeWait judges how long a call waits while a quorum serves, since the last thing that happened to it, to the servers, or to
-// somebody who was before it in the queue.
+// judgeWait judges how long a call waits while a quorum serves, since the last thing that happened to it, to the servers, or
+// to somebody who was before it in the queue.
 func (j *judge) judgeWait(at time.Duration, p *pass) {
 	if p.entered > 0 || p.tries || p.late || j.serving == 0 {
 		return
@@ -384,16 +391,16 @@ func (j *judge) judgeWait(at time.Duration, p *pass) {
 	}
 }
 
-// judgeTry judges a try that failed, as somebody else had the lock, or had asked before. It is known who did if nothing happened to
-// anybody for two TTL. For a TTL messages of who left may be under way.
+// judgeTry judges a try that failed, as somebody else had the lock, or had asked before. It is known who did if nothing
+// happened to anybody for two TTL. For a TTL messages of who left may be under way.
 func (j *judge) judgeTry(at time.Duration, p *pass) {
 	j.found.Tries++
 	if len(p.place.passes) == 1 && !p.place.mayBe && p.since-p.place.left > j.ttl && p.since-j.disturbed > 2*j.ttl {
-		why := ""
-		if p.place.died {
-			why = " of which a holder died before"
+		if p.place.died { // a voter that was not asked since may have a request that was withdrawn by a lost message
+			j.found.Doubtful++
+			return
 		}
-		j.fault(at, freeTries+why, "%s: %s, and nobody was there", p.place.name, p.who.name)
+		j.fault(at, freeTries, "%s: %s, and nobody was there", p.place.name, p.who.name)
 	}
 }
 

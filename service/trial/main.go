@@ -3,18 +3,20 @@
 // and loses and repeats messages, while a witness outside of the clients judges. Some clients stay
 // inside for longer than a lease lasts: else a loss that is told too late is hardly seen.
 //
-// Clients are of all kinds with --all-kinds: by sessions, by agents from Go, Python and curl, by `qlockctl run`, and sessions that
-// come and die. The witness has to find nothing of these, and says what else happened before if that may be why:
+// Clients are of all kinds with --all-kinds: by sessions, by agents from Go, Python and curl, by `qlockctl run`, and
+// sessions that come and die. The witness has to find nothing of these, and says what else happened before if that may be
+// why:
 //
 //   - two inside, of which none was let go: neither stood still, nor did an operator let it go,
 //     nor was it told so, as by Held.Lost;
 //   - a write of a pass after one of a later pass, a lost update, a turn that is not above all before;
-//   - a wait longer than 3 TTL while a quorum of voters says that it serves, since the last thing that happened to who waits,
-//     to the servers, or to somebody who was before it in the queue; and no quorum that serves for so long, though its voters reply;
+//   - a wait longer than 3 TTL while a quorum of voters says that it serves, since the last thing that happened to who
+//     waits, to the servers, or to somebody who was before it in the queue; and no quorum that serves for so long, though
+//     its voters reply;
 //   - a failed try of a lock that nobody has, and calls that fail in ways that no fault explains.
 //
-// Incidents come in bursts, after which all is there again, or all but one voter. With --history what happened is kept, and
-// --judge judges it again.
+// Incidents come in bursts, after which all is there again, or all but one voter. With --history what happened is kept,
+// and --judge judges it again.
 package main
 
 import (
@@ -247,7 +249,10 @@ func startWorkers(cluster *local.Cluster, witness string, o options) (workers []
 	for _, one := range []struct {
 		kind                string
 		number, agent, each int
-	}{{"by-agent", 0, 0, 3}, {"by-agent", 1, 1, 3}, {"python", 0, 1, 2}, {"curl", 0, 0, 2}, {"run", 0, -1, 2}, {"run", 1, 1, 2}, {"brief", 0, -1, 2}} {
+	}{
+		{"by-agent", 0, 0, 3}, {"by-agent", 1, 1, 3}, {"python", 0, 1, 2}, {"curl", 0, 0, 2},
+		{"run", 0, -1, 2}, {"run", 1, 1, 2}, {"brief", 0, -1, 2},
+	} {
 		if err == nil && o.allKinds && (one.kind != "python" || o.python != "") {
 			err = start(one.kind, one.number, one.agent, one.each)
 		}
@@ -272,11 +277,13 @@ func show(counts map[string]int) {
 
 // show prints what was found.
 func (f findings) show() {
-	fmt.Printf("%d passes, %d writes, %d turns, %d failed tries, %d locks of sessions that died; longest wait while a quorum served %.2f s\n",
-		f.Passes, f.Writes, f.Turns, f.Tries, f.Gone, f.LongestWait.Seconds())
+	fmt.Printf("%d passes, %d writes, %d turns, %d failed tries, %d of them of a lock that nobody had since a holder died; "+
+		"%d locks of sessions that died; longest wait while a quorum served %.2f s\n",
+		f.Passes, f.Writes, f.Turns, f.Tries, f.Doubtful, f.Gone, f.LongestWait.Seconds())
 	fmt.Printf("locks that were lost while held: %d; entries while one that was let go was inside: %d; "+
 		"shows that the guard refused: %d; passes that stayed inside: %d\n", f.Lost, f.Met, f.Refused, f.Stays)
-	for _, name := range []string{twoInside, torn, lostUpdates, turnsFell, longWaits, freeTries, nobodyServes, nothingSaid, gaveUpEarly, saidRetired} {
+	for _, name := range []string{twoInside, torn, lostUpdates, turnsFell, longWaits, freeTries, nobodyServes, nothingSaid,
+		gaveUpEarly, saidRetired} {
 		if f.Faults[name] == 0 {
 			fmt.Printf("  0 %s\n", name)
 		}

@@ -26,8 +26,8 @@ func (s *streak) next(cluster *config.Cluster, voters uint64, now time.Duration)
 	}
 }
 
-// observe asks the voters how they are until the trial is over, so that the witness knows since when a quorum serves. A voter that is
-// quiet gives its vote to nobody who enters.
+// observe asks the voters how they are until the trial is over, so that the witness knows since when a quorum serves. A
+// voter that is quiet gives its vote to nobody who enters.
 func (p *player) observe(over <-chan struct{}) {
 	var serving, replying streak
 	served := boot.Uptime() // when a quorum served last, or it was said that none does

@@ -117,16 +117,16 @@ func pipe(words ...string) (*piped, error) {
 // lapse notes that the lock is lost.
 func (p *piped) lapse() { p.once.Do(func() { close(p.lost) }) }
 
-// end kills the program, and returns errLapsed if the lock was lost.
-func (p *piped) end() error {
-	_ = p.run.Process.Kill()
-	_ = p.run.Wait()
+// end kills the program, and returns errLapsed if the lock was lost before.
+func (p *piped) end() (err error) {
 	select {
 	case <-p.lost:
-		return errLapsed
+		err = errLapsed
 	default:
-		return nil
 	}
+	_ = p.run.Process.Kill()
+	_ = p.run.Wait()
+	return err
 }
 
 // said is what an agent says in a line.
@@ -154,16 +154,11 @@ func byCurl(socket string) taker {
 			return held{}, err
 		}
 		first := p.hears()
-		switch {
-		case first.Held:
-		case first.Fault == "held":
+		if !first.Held {
 			_ = p.end()
-			return held{}, locks.ErrHeld
-		case first.Fault == "timeout":
-			_ = p.end()
-			return held{}, context.DeadlineExceeded
-		default:
-			_ = p.end()
+			if err := refusals[first.Fault]; err != nil {
+				return held{}, err
+			}
 			return held{}, fmt.Errorf("curl: %s %s", first.Fault, first.Why)
 		}
 		token, err := hex.DecodeString(first.Pass)
@@ -172,12 +167,12 @@ func byCurl(socket string) taker {
 	}
 }
 
+// refusals are what an agent says if a lock is not to be had, and that is as it may be.
+var refusals = map[string]error{"held": locks.ErrHeld, "timeout": context.DeadlineExceeded}
+
 // hears returns the next line of an agent, an empty one at the end.
 func (p *piped) hears() (s said) {
-	line, err := p.lines.ReadBytes('\n')
-	if err != nil && len(line) == 0 {
-		return s
-	}
+	line, _ := p.lines.ReadBytes('\n')
 	_ = json.Unmarshal(line, &s)
 	return s
 }
@@ -185,26 +180,11 @@ func (p *piped) hears() (s said) {
 // follow reads what the agent says until the lock is lost: so it says, or says nothing until then.
 func (p *piped) follow(until int64) {
 	defer p.lapse()
-	news := make(chan int64)
-	go func() {
-		defer close(news)
-		for next := p.hears(); next.Until > 0; next = p.hears() {
-			news <- next.Until
-		}
-	}()
-	for isThere := true; isThere; {
-		left := time.Duration(until)*time.Millisecond - boot.Uptime()
-		if left < 0 {
-			go func() {
-				for range news {
-				}
-			}()
-			return
-		}
-		select {
-		case until, isThere = <-news:
-		case <-time.After(left):
-		}
+	left := func(until int64) time.Duration { return time.Duration(until)*time.Millisecond - boot.Uptime() }
+	silence := time.AfterFunc(left(until), p.lapse)
+	defer silence.Stop()
+	for next := p.hears(); next.Until > 0; next = p.hears() {
+		silence.Reset(left(next.Until))
 	}
 }
 
