@@ -1,6 +1,6 @@
 #!/bin/sh
-# Says how old the stored run of the trial is (hour.sh), in commits to the clients and the voters since. Ends with status 1 if a piece
-# is older than so many, is not there, or failed.
+# Says how old the stored run of the trial is (hour.sh), in commits to the clients and the voters since, and which pieces were not run.
+# Ends with status 1 if there is none, or a piece is older than so many, or failed.
 #
 #     service/trial/age.sh [MOST]
 set -eu
@@ -11,11 +11,13 @@ if [ "$(git -C "$here" rev-parse --is-shallow-repository 2> /dev/null)" != false
     exit 0
 fi
 status=0
+grep -q '^piece ' "$here/long.txt" || { echo "trial: no piece of the long run is stored; service/trial/hour.sh" >&2; status=1; }
 for piece in 1 2 3 4 5 6; do
     commit=$(sed -n "s/^piece $piece of //p" "$here/long.txt")
-    age=$(git -C "$here" rev-list --count "${commit:-none}..HEAD" -- "$here/../locks" "$here/../internal/voter" 2> /dev/null) || age=unknown
+    [ -n "$commit" ] || { echo "note: piece $piece of the long run of the trial is not stored"; continue; }
+    age=$(git -C "$here" rev-list --count "$commit..HEAD" -- "$here/../locks" "$here/../internal/voter" 2> /dev/null) || age=unknown
     if [ "$age" = unknown ] || [ "$age" -gt "$most" ]; then
-        echo "trial: piece $piece of the stored run is of ${commit:-no commit}: its age is $age; service/trial/hour.sh --piece $piece" >&2
+        echo "trial: piece $piece of the stored run is of $commit: its age is $age; service/trial/hour.sh --piece $piece" >&2
         status=1
     fi
 done

@@ -93,10 +93,15 @@ type findings struct {
 	Faults                             map[string]int
 }
 
-// faults returns how many faults were found.
+// known is what is counted, and makes no run fail: a session of a shard that is just opened may go by a plan that was retired meanwhile.
+const known = saidRetired
+
+// faults returns how many faults were found that are not known.
 func (f findings) faults() (sum int) {
-	for _, count := range f.Faults {
-		sum += count
+	for name, count := range f.Faults {
+		if name != known {
+			sum += count
+		}
 	}
 	return sum
 }

@@ -54,7 +54,11 @@ func judged(t *testing.T, lines ...string) findings {
 // is fails unless these faults were found, and no others.
 func (f findings) is(t *testing.T, what string, names ...string) {
 	t.Helper()
-	if f.faults() != len(names) {
+	sum := 0
+	for _, count := range f.Faults {
+		sum += count
+	}
+	if sum != len(names) || f.faults() != sum-f.Faults[known] {
 		t.Errorf("%s: %v", what, f.Faults)
 	}
 	for _, name := range names {

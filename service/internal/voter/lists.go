@@ -79,9 +79,10 @@ func (d *Daemon) pageOfVotes(from int, now time.Time) page {
 
 // What those who only look may ask.
 const (
-	mostQuestions   = 16 // that wait
-	questionsOfUser = 4  // of one user that wait
-	rest            = 9  // no answer begins for so many times as long as the last one took
+	mostQuestions   = 16                     // that wait
+	questionsOfUser = 4                      // of one user that wait
+	rest            = 9                      // no answer begins for so many times as long as the last one took
+	longestRest     = 250 * time.Millisecond // on a busy machine the loop may have stood still
 )
 
 // questions are those that wait, of users who only look.
@@ -127,5 +128,5 @@ func (d *Daemon) answerNext() {
 	d.questions.waiting = d.questions.waiting[1:]
 	d.operate(asked, false, now)
 	ended := d.now()
-	d.questions.next = ended.Add(rest * ended.Sub(now))
+	d.questions.next = ended.Add(sooner(rest*ended.Sub(now), longestRest))
 }
