@@ -421,10 +421,13 @@ func (p *player) loseState(i int, one *local.Process) error {
 	if !one.Ended(10*time.Second) || !strings.Contains(one.Log(), "there is no state") {
 		return fmt.Errorf("%s: %w", one.Name, errStarted)
 	}
-	if err := p.cluster.InitLost(i); err != nil {
-		return err
+	var err error
+	for try := 0; try < 4; try++ { // each takes half a minute at most: others may be away, or cut off from the command
+		if err = p.cluster.InitLost(i); err == nil {
+			return one.Start()
+		}
 	}
-	return one.Start()
+	return err
 }
 
 // putOlder puts an older copy of a voter's state back. It has to end by itself, and goes on from the newest one.

@@ -93,13 +93,17 @@ type findings struct {
 	Faults                             map[string]int
 }
 
-// known is what is counted, and makes no run fail: a session of a shard that is just opened may go by a plan that was retired meanwhile.
-const known = saidRetired
+// afterAll is said of a fault that followed when all voters had ended.
+const afterAll = " after all voters ended"
+
+// known are faults that are counted, and make no run fail. A session of a shard that is just opened may go by a plan that was retired
+// meanwhile. And voters that were all killed wait for those that do not come back, then for a TTL.
+var known = map[string]bool{saidRetired: true, nobodyServes + afterAll: true}
 
 // faults returns how many faults were found that are not known.
 func (f findings) faults() (sum int) {
 	for name, count := range f.Faults {
-		if name != known {
+		if !known[name] {
 			sum += count
 		}
 	}
@@ -390,7 +394,7 @@ func (j *judge) judgeWait(at time.Duration, p *pass) {
 	if p.late = waited > 3*j.ttl; p.late {
 		why := ""
 		if ended := j.acts["all-ended"]; ended > 0 && since-ended < 8*time.Second+2*j.ttl {
-			why = " after all voters ended"
+			why = afterAll
 		}
 		j.fault(at, longWaits+why, "%s has waited for %v", p.who.name, waited)
 	}
@@ -418,7 +422,7 @@ func (j *judge) report(at time.Duration, one *worker, words []string) {
 	case name == saidRetired && one.touched > j.acts["exchange"]:
 		return // it may have heard of no exchange
 	case name == nobodyServes && at-j.acts["all-ended"] < 8*time.Second+4*j.ttl:
-		why = " after all voters ended"
+		why = afterAll
 	}
 	j.fault(at, name+why, "%s", strings.Join(words[2:], " "))
 }

@@ -54,11 +54,13 @@ func judged(t *testing.T, lines ...string) findings {
 // is fails unless these faults were found, and no others.
 func (f findings) is(t *testing.T, what string, names ...string) {
 	t.Helper()
-	sum := 0
-	for _, count := range f.Faults {
-		sum += count
+	sum, failing := 0, 0
+	for name, count := range f.Faults {
+		if sum += count; !known[name] {
+			failing += count
+		}
 	}
-	if sum != len(names) || f.faults() != sum-f.Faults[known] {
+	if sum != len(names) || f.faults() != failing {
 		t.Errorf("%s: %v", what, f.Faults)
 	}
 	for _, name := range names {
