@@ -1,6 +1,6 @@
 #!/bin/sh
-# Says how old the stored run of the trial is (hour.sh), in commits to the clients and the voters since, and which pieces were not run.
-# Ends with status 1 if there is none, or a piece is older than so many, or failed.
+# Says how old the stored run of the trial is (hour.sh), in commits to the clients and the voters since, which pieces were not run, and
+# which of them found something. Ends with status 1 if there is none, or a piece is older than so many.
 #
 #     service/trial/age.sh [MOST]
 set -eu
@@ -21,5 +21,5 @@ for piece in 1 2 3 4 5 6; do
         status=1
     fi
 done
-if grep '^trial: ' "$here/long.txt" >&2; then status=1; fi
+awk '/^piece/ { piece = $2 } /^trial: / { print "note: piece " piece " of the long run: " $0 }' "$here/long.txt"
 exit "$status"
