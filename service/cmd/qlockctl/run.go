@@ -165,7 +165,7 @@ func (of taking) slowVoters() string {
 func run(ctx context.Context, settings locks.Config, of taking, grace time.Duration, words []string) (err error) {
 	limit, cancel := context.WithTimeout(ctx, of.wait)
 	defer cancel()
-	client, held, err := takenBy(limit, settings, of)
+	client, held, turn, err := takenBy(limit, settings, of)
 	if client == nil && errors.Is(err, locks.ErrNoQuorum) {
 		err = fmt.Errorf("%w%s", err, of.slowVoters())
 	}
@@ -179,37 +179,55 @@ func run(ctx context.Context, settings locks.Config, of taking, grace time.Durat
 			fmt.Fprintln(os.Stderr, "qlockctl: the lock is let go after the TTL:", closed)
 		}
 	}()
+	if errors.As(err, new(status)) {
+		return err
+	}
 	if err != nil {
 		now := func() string { return of.slowVoters() + nowHeld(client, of.lock) }
 		return notTaken(limit, err, client.Silent(), of, now)
 	}
-	turn := uint64(0)
-	if of.turns {
-		if turn, err = held.Turn(limit); err != nil {
-			_ = held.Unlock()
-			return status{exitNoLock, err}
-		}
-	}
 	return runWith(ctx, held, of, turn, grace, words)
 }
 
-// takenBy opens a session, and takes a lock by it. One that is over before, since another one has its number or an operator ended it, is
-// followed by another one. It returns no client if none was to be had.
-func takenBy(limit context.Context, settings locks.Config, of taking) (client *locks.Client, held *locks.Held, err error) {
+// takenBy opens a session, and takes a lock by it, and its turn if that is wanted. One that is over before, since another one has its number
+// or an operator ended it, is followed by another one. It returns no client if none was to be had.
+func takenBy(limit context.Context, settings locks.Config, of taking) (client *locks.Client, held *locks.Held, turn uint64, err error) {
 	for {
 		err = unlessRefused(limit, settings.Transport, func(ctx context.Context) (err error) {
 			client, err = locks.Open(ctx, settings)
 			return err
 		})
 		if err != nil {
-			return nil, nil, err
+			return nil, nil, 0, err
 		}
 		take := client.Lock
 		if of.tries {
 			take = client.TryLock
 		}
-		if held, err = take(limit, of.lock); !errors.Is(err, locks.ErrLost) || limit.Err() != nil {
-			return client, held, err
+		held, turn, err = withTurn(limit, func() (*locks.Held, error) { return take(limit, of.lock) }, func(h *locks.Held) (uint64, error) {
+			if !of.turns {
+				return 0, nil
+			}
+			return h.Turn(limit)
+		})
+		if !errors.Is(err, locks.ErrLost) || limit.Err() != nil {
+			return client, held, turn, err
+		}
+	}
+}
+
+// withTurn takes a lock, and then its turn. One that lapses before its turn is there is given back, and taken again.
+func withTurn[H interface{ Unlock() error }](limit context.Context, take func() (H, error), turnOf func(H) (uint64, error)) (held H, turn uint64, err error) {
+	for {
+		if held, err = take(); err != nil {
+			return held, 0, err
+		}
+		if turn, err = turnOf(held); err == nil {
+			return held, turn, nil
+		}
+		_ = held.Unlock()
+		if !errors.Is(err, locks.ErrLapsed) || limit.Err() != nil {
+			return held, 0, status{exitNoLock, err}
 		}
 	}
 }

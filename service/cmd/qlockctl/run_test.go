@@ -427,3 +427,30 @@ func TestSlowVoters(t *testing.T) {
 		t.Errorf("a quiet one: %q", why)
 	}
 }
+
+// A lock that lapses before its turn is there is taken again, as long as the command may wait.
+func TestLockThatLapsesBeforeItsTurn(t *testing.T) {
+	short, cancel := context.WithCancel(context.Background())
+	defer cancel()
+	for _, one := range []struct {
+		why   error
+		taken int // how often it is taken
+	}{{locks.ErrLapsed, 3}, {context.DeadlineExceeded, 1}} {
+		taken := 0
+		_, turn, err := withTurn(short, func() (lapsing, error) { taken++; return lapsing{}, nil }, func(lapsing) (uint64, error) {
+			if taken == 3 {
+				return 7, nil
+			}
+			return 0, one.why
+		})
+		if taken != one.taken || (err == nil) != (turn == 7) || (err == nil) != (one.taken == 3) {
+			t.Errorf("%v: taken %d times, turn %d: %v", one.why, taken, turn, err)
+		}
+	}
+	cancel()
+	var got status
+	if _, _, err := withTurn(short, func() (lapsing, error) { return lapsing{}, nil }, func(lapsing) (uint64, error) { return 0, locks.ErrLapsed }); !errors.As(err, &got) ||
+		got.code != exitNoLock {
+		t.Errorf("after its time: %v", err)
+	}
+}
