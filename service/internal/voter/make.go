@@ -43,8 +43,8 @@ func InitLost(ctx context.Context, own *config.Voter, cluster *config.Cluster, c
 			others = append(others, voter)
 		}
 	}
-	for {
-		short, cancel := context.WithTimeout(ctx, 2*time.Second)
+	for wait := 2 * time.Second; ; wait *= 2 { // there may be many sessions, so many pages to read
+		short, cancel := context.WithTimeout(ctx, wait)
 		replies, err := AskKnown(short, console, others...)
 		cancel()
 		if err != nil {

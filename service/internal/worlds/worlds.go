@@ -235,7 +235,7 @@ func (w *World) Lose(i int) {
 	if err := os.RemoveAll(w.Owns[i].Data); err != nil {
 		w.T.Fatal(err)
 	}
-	ctx, cancel := context.WithTimeout(context.Background(), 5*time.Second)
+	ctx, cancel := context.WithTimeout(context.Background(), 30*time.Second)
 	defer cancel()
 	if _, err := voter.InitLost(ctx, w.Owns[i], w.Cluster, w.Console()); err != nil {
 		w.T.Fatal(err)
