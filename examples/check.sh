@@ -364,7 +364,6 @@ shown coterie-centres-3-2-3 /dev/null coterie centres 3 2 3
 shown coterie-votes /dev/null coterie votes 3 2 2 1 1
 shown coterie-any /dev/null coterie any 7 9
 shown coterie-any-3-5 /dev/null coterie any 3 5
-"$here/shapes.py" "$show" || failed=$((failed + 1))
 shown compare /dev/null compare three-racks.toml weighted-votes.toml seven-of-nine.toml
 shown compare-with-capacities /dev/null compare wheel-3-fast-hub.toml three-centres.toml
 shown compare-in-two-units /dev/null compare wheel-3.toml wheel-3-fast-hub.toml

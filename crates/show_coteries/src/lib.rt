@@ -17,7 +17,7 @@
 //! # What is proved
 //!
 //! What is written is the text of a coterie with the given capacities, so `read_coterie` reads it.
-//! That it is the coterie of the shape is tested, for all shapes of up to nine voters.
+//! That it is the coterie of the shape is tested, by stored texts.
 //!
 //! ```
 //! let text = coterie_text(alloc, &CoterieShape::Racks(3, 3), None)?; // two of three in two of three
